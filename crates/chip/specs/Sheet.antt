@@ -1,0 +1,102 @@
+-- The sheet: registers and the two memories (document 01, "The panel").
+use Prim.Native.Nat.{ℕ}
+use mathlib.Core.Path.{_≡_}
+use mathlib.Core.Bool.{Bool, true, false}
+use mathlib.Core.List.{List}
+use lib.ListN.{replicate}
+use Rattle.chip.specs.Address.{displaySize, patternSize, display, readDisplay, readPattern}
+use Rattle.chip.specs.declared.address.Address.{Address}
+use Rattle.chip.specs.declared.address.Address.the-variants.{Display, Pattern}
+use Rattle.chip.specs.declared.registers.Registers.{Registers}
+use Rattle.chip.specs.declared.sheet.Sheet.{Sheet}
+
+-- registers and memories put together
+abbrev pub sheetOf : Registers → List ℕ → List ℕ → Sheet
+sheetOf r d p = record { registers = r; display = d; pattern = p }
+
+-- fresh: display memory all 20h, pattern memory all 0, address 0 in display memory, shift 0, I/D = 1, S = D = C = B = 0, width 8, Function Set bits 0
+abbrev pub freshRegisters : Registers
+freshRegisters =
+    record {
+      address = Display (display 0);
+      shift = 0;
+      up = true;
+      follow = false;
+      on = false;
+      cursor = false;
+      blink = false;
+      eight = true;
+      function = 0;
+    }
+
+abbrev pub freshSheet : Sheet
+freshSheet = sheetOf freshRegisters (replicate displaySize 0x20) (replicate patternSize 0)
+
+-- the byte at the address, in the memory that it points into
+abbrev pub readAt : Address → List ℕ → List ℕ → ℕ
+readAt (Display a) d p = readDisplay a d
+readAt (Pattern a) d p = readPattern a p
+
+abbrev pub readHere : Registers → List ℕ → List ℕ → ℕ
+readHere r d p = readAt (r .address) d p
+
+-- registers r with the memories at exit are the sheet s
+abbrev pub Starts : Sheet → Registers → List ℕ → List ℕ → Type 0
+Starts s r d p = sheetOf r d p ≡ s
+
+-- registers r become r' by the step f of the whole sheet, whatever the memories hold: neither is lent, neither changes
+abbrev pub Steps : (Sheet → Sheet) → Registers → Registers → Type 0
+Steps f r r' = (d p : List ℕ) → sheetOf r' d p ≡ f (sheetOf r d p)
+
+-- the same where display memory is lent and becomes d'
+abbrev pub StepsDisplay : (Sheet → Sheet) → Registers → List ℕ → Registers → List ℕ → Type 0
+StepsDisplay f r d r' d' = (p : List ℕ) → sheetOf r' d' p ≡ f (sheetOf r d p)
+
+-- the same where both are lent
+abbrev pub StepsBoth : (Sheet → Sheet) → Registers → List ℕ → List ℕ → Registers → List ℕ → List ℕ → Type 0
+StepsBoth f r d p r' d' p' = sheetOf r' d' p' ≡ f (sheetOf r d p)
+
+-- a sheet with one part set anew
+abbrev pub withRegisters : Registers → Sheet → Sheet
+withRegisters r s = sheetOf r (s .display) (s .pattern)
+
+abbrev pub withDisplay : List ℕ → Sheet → Sheet
+withDisplay d s = sheetOf (s .registers) d (s .pattern)
+
+abbrev pub withPattern : List ℕ → Sheet → Sheet
+withPattern p s = sheetOf (s .registers) (s .display) p
+
+abbrev pub withAddress : Address → Sheet → Sheet
+withAddress a s =
+    let r = s .registers in
+    withRegisters
+    (record { address = a; shift = r .shift; up = r .up; follow = r .follow; on = r .on; cursor = r .cursor; blink = r .blink; eight = r .eight; function = r .function })
+    s
+
+abbrev pub withShift : ℕ → Sheet → Sheet
+withShift n s =
+    let r = s .registers in
+    withRegisters
+    (record { address = r .address; shift = n; up = r .up; follow = r .follow; on = r .on; cursor = r .cursor; blink = r .blink; eight = r .eight; function = r .function })
+    s
+
+abbrev pub withEntry : Bool → Bool → Sheet → Sheet
+withEntry up follow s =
+    let r = s .registers in
+    withRegisters
+    (record { address = r .address; shift = r .shift; up = up; follow = follow; on = r .on; cursor = r .cursor; blink = r .blink; eight = r .eight; function = r .function })
+    s
+
+abbrev pub withScreen : Bool → Bool → Bool → Sheet → Sheet
+withScreen on cursor blink s =
+    let r = s .registers in
+    withRegisters
+    (record { address = r .address; shift = r .shift; up = r .up; follow = r .follow; on = on; cursor = cursor; blink = blink; eight = r .eight; function = r .function })
+    s
+
+abbrev pub withFunction : Bool → ℕ → Sheet → Sheet
+withFunction eight bits s =
+    let r = s .registers in
+    withRegisters
+    (record { address = r .address; shift = r .shift; up = r .up; follow = r .follow; on = r .on; cursor = r .cursor; blink = r .blink; eight = eight; function = bits })
+    s

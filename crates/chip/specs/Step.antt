@@ -1,0 +1,83 @@
+-- What each step does to the sheet (document 01, "Steps").
+use Prim.Native.Nat.{ℕ}
+use mathlib.Core.Bool.{Bool, true}
+use lib.ListN.{replicate}
+use Rattle.laws.specs.Pick.{pick}
+use Rattle.laws.specs.Ring.{moved}
+use Rattle.chip.specs.Address.{displaySize, display, movedAddress, writtenDisplay, writtenPattern}
+use Rattle.chip.specs.Sheet.{withDisplay, withPattern, withAddress, withShift, withEntry, withScreen, withFunction}
+use Rattle.chip.specs.Instruction.{decoded}
+use Rattle.chip.specs.declared.address.Address.{Address}
+use Rattle.chip.specs.declared.address.Address.the-variants.{Display, Pattern}
+use Rattle.chip.specs.declared.instruction.Instruction.{Instruction}
+use Rattle.chip.specs.declared.instruction.Instruction.the-variants.{Nothing, Clear, Home, Entry, Screen, Move, Shift, Function, Set}
+use Rattle.chip.specs.declared.sheet.Sheet.{Sheet}
+
+-- Home: display address 0, shift 0
+abbrev pub homed : Sheet → Sheet
+homed s = withAddress (Display (display 0)) (withShift 0 s)
+
+-- Clear: 20h everywhere in display memory, display address 0, shift 0, I/D = 1; S stays
+abbrev pub cleared : Sheet → Sheet
+cleared s = withDisplay (replicate displaySize 0x20) (withEntry true (s .registers .follow) (homed s))
+
+-- the entry bits I/D and S
+abbrev pub entered : Bool → Bool → Sheet → Sheet
+entered up follow s = withEntry up follow s
+
+-- the display bits D, C and B
+abbrev pub lit : Bool → Bool → Bool → Sheet → Sheet
+lit on cursor blink s = withScreen on cursor blink s
+
+-- the address by one, within its memory
+abbrev pub stepped : Bool → Sheet → Sheet
+stepped up s = withAddress (movedAddress up (s .registers .address)) s
+
+-- the shift alone: left +1, right -1, mod 16
+abbrev pub shifted : Bool → Sheet → Sheet
+shifted left s = withShift (moved displaySize left (s .registers .shift)) s
+
+-- the width and the low four Function Set bits
+abbrev pub functionSet : Bool → ℕ → Sheet → Sheet
+functionSet eight bits s = withFunction eight bits s
+
+-- an address set
+abbrev pub addressSet : Address → Sheet → Sheet
+addressSet a s = withAddress a s
+
+-- an instruction carried out
+abbrev pub acted : Instruction → Sheet → Sheet
+acted Nothing s = s
+acted Clear s = cleared s
+acted Home s = homed s
+acted (Entry up follow) s = entered up follow s
+acted (Screen on cursor blink) s = lit on cursor blink s
+acted (Move up) s = stepped up s
+acted (Shift left) s = shifted left s
+acted (Function eight bits) s = functionSet eight bits s
+acted (Set a) s = addressSet a s
+
+-- a code carried out
+abbrev pub obeyed : ℕ → Sheet → Sheet
+obeyed code s = acted (decoded code) s
+
+-- a byte stored at the address, in the memory that it points into
+abbrev pub storedAt : Address → ℕ → Sheet → Sheet
+storedAt (Display a) byte s = withDisplay (writtenDisplay a byte (s .display)) s
+storedAt (Pattern a) byte s = withPattern (writtenPattern a byte (s .pattern)) s
+
+-- with S = 1 a display-memory write also shifts: left if I/D = 1, right if 0
+abbrev pub followedAt : Address → Sheet → Sheet
+followedAt (Display a) s = pick (s .registers .follow) (shifted (s .registers .up) s) s
+followedAt (Pattern a) s = s
+
+-- data write: stores at the address, then the address moves by I/D, then the shift
+abbrev pub writtenAt : Address → ℕ → Sheet → Sheet
+writtenAt a byte s = followedAt a (stepped (s .registers .up) (storedAt a byte s))
+
+abbrev pub written : ℕ → Sheet → Sheet
+written byte s = writtenAt (s .registers .address) byte s
+
+-- data read: the address moves; no shift
+abbrev pub passed : Sheet → Sheet
+passed s = stepped (s .registers .up) s

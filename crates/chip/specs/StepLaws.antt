@@ -1,0 +1,131 @@
+-- Laws of the steps: each changes only what document 01 names, and what was written reads back.
+use Prim.Native.Nat.{ℕ, _%_, _<_, _≤_}
+use mathlib.Core.Path.{_≡_, refl, sym, ap, _∙_}
+use mathlib.Core.Bool.{Bool, true, false}
+use mathlib.Core.List.{List}
+use native.Mathlib.Omega.{arith}
+use native.Mathlib.Nat.{mod-lt, mod-mod}
+use lib.ListN.{length, getD, set}
+use lib.Seq.{getD-set-same, getD-set-other}
+use Rattle.laws.specs.Pick.{pick}
+use Rattle.chip.specs.Address.{displaySize, patternSize, readDisplay, writtenDisplay, readPattern, writtenPattern}
+use Rattle.chip.specs.Step.{homed, cleared, entered, lit, stepped, shifted, functionSet, addressSet, storedAt, writtenAt, written, passed}
+use Rattle.chip.specs.declared.address.DisplayAddress.{DisplayAddress}
+use Rattle.chip.specs.declared.address.PatternAddress.{PatternAddress}
+use Rattle.chip.specs.declared.address.Address.{Address}
+use Rattle.chip.specs.declared.address.Address.the-variants.{Display, Pattern}
+use Rattle.chip.specs.declared.sheet.Sheet.{Sheet}
+
+-- a write by the memory that the address is known to point into
+pub written-as : (a : Address) (byte : ℕ) (s : Sheet) → s .registers .address ≡ a → writtenAt a byte s ≡ written byte s
+written-as a byte s e = ap (λ x. writtenAt x byte s) (sym e)
+
+-- a write to display memory with S as it is known to be
+pub written-follow : (a : DisplayAddress) (byte : ℕ) (s : Sheet) (f : Bool) → s .registers .address ≡ Display a → s .registers .follow ≡ f →
+    (let t = stepped (s .registers .up) (storedAt (Display a) byte s) in pick f (shifted (s .registers .up) t) t) ≡ written byte s
+written-follow a byte s f e g =
+    let t = stepped (s .registers .up) (storedAt (Display a) byte s) in
+    ap (λ b. pick b (shifted (s .registers .up) t) t) (sym g) ∙ written-as (Display a) byte s e
+
+-- What two sheets have in common. Each law below says which of these a step leaves.
+abbrev pub SameEntry : Sheet → Sheet → Type 0
+SameEntry s t = (t .registers .up ≡ s .registers .up) × (t .registers .follow ≡ s .registers .follow)
+
+abbrev pub SameScreen : Sheet → Sheet → Type 0
+SameScreen s t =
+    (t .registers .on ≡ s .registers .on) × (t .registers .cursor ≡ s .registers .cursor) × (t .registers .blink ≡ s .registers .blink)
+
+abbrev pub SameFunction : Sheet → Sheet → Type 0
+SameFunction s t = (t .registers .eight ≡ s .registers .eight) × (t .registers .function ≡ s .registers .function)
+
+abbrev pub SameAddress : Sheet → Sheet → Type 0
+SameAddress s t = t .registers .address ≡ s .registers .address
+
+abbrev pub SameShift : Sheet → Sheet → Type 0
+SameShift s t = t .registers .shift ≡ s .registers .shift
+
+abbrev pub SameDisplay : Sheet → Sheet → Type 0
+SameDisplay s t = t .display ≡ s .display
+
+abbrev pub SamePattern : Sheet → Sheet → Type 0
+SamePattern s t = t .pattern ≡ s .pattern
+
+-- Clear leaves S, the screen, width and Function Set bits, and pattern memory
+pub clear-keeps : (s : Sheet) → let t = cleared s in (t .registers .follow ≡ s .registers .follow) × SameScreen s t × SameFunction s t × SamePattern s t
+clear-keeps s = (refl, (refl, refl, refl), (refl, refl), refl)
+
+-- Home leaves all but address and shift
+pub home-keeps : (s : Sheet) → let t = homed s in SameEntry s t × SameScreen s t × SameFunction s t × SameDisplay s t × SamePattern s t
+home-keeps s = ((refl, refl), (refl, refl, refl), (refl, refl), refl, refl)
+
+-- entry mode leaves all but I/D and S
+pub entry-keeps : (up follow : Bool) (s : Sheet) → let t = entered up follow s in
+    SameAddress s t × SameShift s t × SameScreen s t × SameFunction s t × SameDisplay s t × SamePattern s t
+entry-keeps up follow s = (refl, refl, (refl, refl, refl), (refl, refl), refl, refl)
+
+-- the display bits: all but D, C and B
+pub screen-keeps : (on cursor blink : Bool) (s : Sheet) → let t = lit on cursor blink s in
+    SameAddress s t × SameShift s t × SameEntry s t × SameFunction s t × SameDisplay s t × SamePattern s t
+screen-keeps on cursor blink s = (refl, refl, (refl, refl), (refl, refl), refl, refl)
+
+-- a cursor move, and so a data read: all but the address, the shift among it (slip 3)
+pub step-keeps : (up : Bool) (s : Sheet) → let t = stepped up s in
+    SameShift s t × SameEntry s t × SameScreen s t × SameFunction s t × SameDisplay s t × SamePattern s t
+step-keeps up s = (refl, (refl, refl), (refl, refl, refl), (refl, refl), refl, refl)
+
+pub read-steps : (s : Sheet) → passed s ≡ stepped (s .registers .up) s
+read-steps s = refl
+
+-- a display shift: all but the shift
+pub shift-keeps : (left : Bool) (s : Sheet) → let t = shifted left s in
+    SameAddress s t × SameEntry s t × SameScreen s t × SameFunction s t × SameDisplay s t × SamePattern s t
+shift-keeps left s = (refl, (refl, refl), (refl, refl, refl), (refl, refl), refl, refl)
+
+-- Function Set: all but the width and its bits
+pub function-keeps : (eight : Bool) (bits : ℕ) (s : Sheet) → let t = functionSet eight bits s in
+    SameAddress s t × SameShift s t × SameEntry s t × SameScreen s t × SameDisplay s t × SamePattern s t
+function-keeps eight bits s = (refl, refl, (refl, refl), (refl, refl, refl), refl, refl)
+
+-- an address set: all but the address
+pub set-keeps : (a : Address) (s : Sheet) → let t = addressSet a s in
+    SameShift s t × SameEntry s t × SameScreen s t × SameFunction s t × SameDisplay s t × SamePattern s t
+set-keeps a s = (refl, (refl, refl), (refl, refl, refl), (refl, refl), refl, refl)
+
+-- a pattern write: all but the address and pattern memory, the shift among it (slip 3)
+pub pattern-write-keeps : (p : PatternAddress) (byte : ℕ) (s : Sheet) → let t = writtenAt (Pattern p) byte s in
+    SameShift s t × SameEntry s t × SameScreen s t × SameFunction s t × SameDisplay s t
+pattern-write-keeps p byte s = (refl, (refl, refl), (refl, refl, refl), (refl, refl), refl)
+
+-- a display write: all but the address, the shift and display memory
+pub display-write-keeps : (d : DisplayAddress) (byte : ℕ) (s : Sheet) → let t = writtenAt (Display d) byte s in
+    SameEntry s t × SameScreen s t × SameFunction s t × SamePattern s t
+display-write-keeps d byte s = by (s .registers .follow)
+  where
+    by : (b : Bool) → let t = pick b (shifted (s .registers .up) (stepped (s .registers .up) (storedAt (Display d) byte s))) (stepped (s .registers .up) (storedAt (Display d) byte s)) in
+        SameEntry s t × SameScreen s t × SameFunction s t × SamePattern s t
+    by true = ((refl, refl), (refl, refl, refl), (refl, refl), refl)
+    by false = ((refl, refl), (refl, refl, refl), (refl, refl), refl)
+
+-- with S = 0 a display write leaves the shift too
+pub still-write-keeps : (d : DisplayAddress) (byte : ℕ) (s : Sheet) → s .registers .follow ≡ false → SameShift s (writtenAt (Display d) byte s)
+still-write-keeps d byte s e =
+    let t = stepped (s .registers .up) (storedAt (Display d) byte s) in
+    ap (λ b. pick b (shifted (s .registers .up) t) t .registers .shift) e
+
+-- a value stored round a memory of n places reads back
+back : (n a v : ℕ) (m : List ℕ) → 0 < n → n ≤ length m → getD (set m (a % n) v) (a % n) 0 ≡ v
+back n a v m z h = getD-set-same m (a % n) v 0 (omega (arith, mod-lt a z))
+
+-- what was just written reads back: all of a byte in display memory, the low five bits in pattern memory
+pub display-back : (d : DisplayAddress) (byte : ℕ) (m : List ℕ) → displaySize ≤ length m → readDisplay d (writtenDisplay d byte m) ≡ byte
+display-back d byte m h = back displaySize (d .0) byte m (omega arith) h
+
+pub pattern-back : (p : PatternAddress) (byte : ℕ) (m : List ℕ) → patternSize ≤ length m → readPattern p (writtenPattern p byte m) ≡ byte % 32
+pattern-back p byte m h = ap (λ x. x % 32) (back patternSize (p .0) (byte % 32) m (omega arith) h) ∙ mod-mod byte 32
+
+-- and every other place stays as it was
+pub display-others : (d e : DisplayAddress) (byte : ℕ) (m : List ℕ) → (e .0 % displaySize ≡ d .0 % displaySize → ⊥) → readDisplay e (writtenDisplay d byte m) ≡ readDisplay e m
+display-others d e byte m n = getD-set-other m (d .0 % displaySize) (e .0 % displaySize) byte 0 n
+
+pub pattern-others : (p q : PatternAddress) (byte : ℕ) (m : List ℕ) → (q .0 % patternSize ≡ p .0 % patternSize → ⊥) → readPattern q (writtenPattern p byte m) ≡ readPattern q m
+pattern-others p q byte m n = ap (λ x. x % 32) (getD-set-other m (p .0 % patternSize) (q .0 % patternSize) (byte % 32) 0 n)

@@ -1,0 +1,99 @@
+// The two counts. A display address and a pattern address are numbers of their own types, and these are the only
+// functions that index a memory.
+ghost use mathlib.Core.Path.{_≡_};
+ghost use Prim.Native.Nat.{_+_};
+ghost use Rattle.laws.specs.Ring.{moved};
+ghost use Rattle.chip.specs.Address.{movedDisplay, movedPattern, movedAddress, readDisplay, writtenDisplay, readPattern, writtenPattern, numberOf};
+
+// How many places each memory has.
+pub const DISPLAY_SIZE: usize = 16;
+
+pub const PATTERN_SIZE: usize = 32;
+
+pub struct DisplayAddress(pub u8);
+
+pub struct PatternAddress(pub u8);
+
+pub enum Address {
+    Display(DisplayAddress),
+    Pattern(PatternAddress),
+}
+
+// One place up or down round a ring whose last place is `last`.
+pub fn step_round(at: u8, last: u8, up: bool) -> u8
+    ensures { λ r. ⌜ r ≡ moved (last + 1) up at ⌝ }
+{
+    let size = last as u16 + 1;
+    if up {
+        ((at as u16 + 1) % size) as u8
+    } else {
+        ((at as u16 + last as u16) % size) as u8
+    }
+}
+
+impl DisplayAddress {
+    pub fn moved(self, up: bool) -> DisplayAddress
+        ensures { λ r. ⌜ r ≡ movedDisplay up self ⌝ }
+    {
+        DisplayAddress(step_round(self.0, DISPLAY_SIZE as u8 - 1, up))
+    }
+
+    // What display memory holds at this address.
+    pub fn read(self, display: &[u8; DISPLAY_SIZE]) -> u8
+        ensures { λ r. ⌜ r ≡ readDisplay self (now (display .entry)) ⌝ }
+    {
+        let i = self.0 as usize % DISPLAY_SIZE;
+        display[i]
+    }
+
+    pub fn write(self, byte: u8, display: &mut [u8; DISPLAY_SIZE])
+        ensures { λ _. ⌜ now (display .exit) ≡ writtenDisplay self byte (now (display .entry)) ⌝ }
+    {
+        let i = self.0 as usize % DISPLAY_SIZE;
+        display[i] = byte;
+    }
+}
+
+impl PatternAddress {
+    pub fn moved(self, up: bool) -> PatternAddress
+        ensures { λ r. ⌜ r ≡ movedPattern up self ⌝ }
+    {
+        PatternAddress(step_round(self.0, PATTERN_SIZE as u8 - 1, up))
+    }
+
+    // What pattern memory holds at this address: five bits.
+    pub fn read(self, pattern: &[u8; PATTERN_SIZE]) -> u8
+        ensures { λ r. ⌜ r ≡ readPattern self (now (pattern .entry)) ⌝ }
+    {
+        let i = self.0 as usize % PATTERN_SIZE;
+        pattern[i] % 32
+    }
+
+    pub fn write(self, byte: u8, pattern: &mut [u8; PATTERN_SIZE])
+        ensures { λ _. ⌜ now (pattern .exit) ≡ writtenPattern self byte (now (pattern .entry)) ⌝ }
+    {
+        let i = self.0 as usize % PATTERN_SIZE;
+        pattern[i] = byte % 32;
+    }
+}
+
+impl Address {
+    // The address as a status read shows it.
+    pub fn number(self) -> u8
+        ensures { λ r. ⌜ r ≡ numberOf self ⌝ }
+    {
+        match self {
+            Address::Display(d) => (d.0 as usize % DISPLAY_SIZE) as u8,
+            Address::Pattern(p) => (p.0 as usize % PATTERN_SIZE) as u8,
+        }
+    }
+
+    pub fn moved(self, up: bool) -> Address
+        ensures { λ r. ⌜ r ≡ movedAddress up self ⌝ }
+    {
+        match self {
+            Address::Display(d) => Address::Display(d.moved(up)),
+            Address::Pattern(p) => Address::Pattern(p.moved(up)),
+        }
+    }
+}

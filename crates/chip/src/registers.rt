@@ -1,0 +1,196 @@
+// The steps. Each is a method on the registers by value that is lent the memory it touches, so that nothing large is
+// copied; together with the memories as they then stand, the answer is the meaning's step of the whole sheet.
+ghost use mathlib.Core.Path.{_≡_};
+ghost use Rattle.chip.specs.Sheet.{Starts, Steps, StepsDisplay, StepsBoth, freshSheet, readHere};
+ghost use Rattle.chip.specs.Step.{cleared, homed, entered, lit, stepped, shifted, functionSet, addressSet, written, passed, acted, obeyed};
+use crate::address::Address;
+use crate::address::DISPLAY_SIZE;
+use crate::address::DisplayAddress;
+use crate::address::PATTERN_SIZE;
+use crate::address::PatternAddress;
+use crate::address::step_round;
+use crate::instruction::Instruction;
+use crate::instruction::decode;
+
+// All of the sheet but its memories.
+pub struct Registers {
+    pub address: Address,
+    pub shift: u8,
+    // I/D: up is 1.
+    pub up: bool,
+    // S: a display write shifts the display.
+    pub follow: bool,
+    // D, C and B.
+    pub on: bool,
+    pub cursor: bool,
+    pub blink: bool,
+    // The width is 8; otherwise it is 4.
+    pub eight: bool,
+    // The low four Function Set bits.
+    pub function: u8,
+}
+
+impl Registers {
+    // A fresh sheet, in the memories lent.
+    pub fn fresh(display: &mut [u8; DISPLAY_SIZE], pattern: &mut [u8; PATTERN_SIZE]) -> Registers
+        ensures { λ r. ⌜ Starts freshSheet r (now (display .exit)) (now (pattern .exit)) ⌝ }
+    {
+        *display = [0x20; DISPLAY_SIZE];
+        *pattern = [0; PATTERN_SIZE];
+        Registers {
+            address: Address::Display(DisplayAddress(0)),
+            shift: 0,
+            up: true,
+            follow: false,
+            on: false,
+            cursor: false,
+            blink: false,
+            eight: true,
+            function: 0,
+        }
+    }
+
+    pub fn clear(self, display: &mut [u8; DISPLAY_SIZE]) -> Registers
+        ensures { λ r. ⌜ StepsDisplay cleared self (now (display .entry)) r (now (display .exit)) ⌝ }
+    {
+        *display = [0x20; DISPLAY_SIZE];
+        Registers {
+            address: Address::Display(DisplayAddress(0)),
+            shift: 0,
+            up: true,
+            follow: self.follow,
+            ..self
+        }
+    }
+
+    pub fn home(self) -> Registers
+        ensures { λ r. ⌜ Steps homed self r ⌝ }
+    {
+        Registers {
+            address: Address::Display(DisplayAddress(0)),
+            shift: 0,
+            ..self
+        }
+    }
+
+    pub fn entry_mode(self, up: bool, follow: bool) -> Registers
+        ensures { λ r. ⌜ Steps (entered up follow) self r ⌝ }
+    {
+        Registers { up, follow, ..self }
+    }
+
+    pub fn screen(self, on: bool, cursor: bool, blink: bool) -> Registers
+        ensures { λ r. ⌜ Steps (lit on cursor blink) self r ⌝ }
+    {
+        Registers {
+            on,
+            cursor,
+            blink,
+            ..self
+        }
+    }
+
+    // The address by one, within its memory.
+    pub fn step(self, up: bool) -> Registers
+        ensures { λ r. ⌜ Steps (stepped up) self r ⌝ }
+    {
+        let a = self.address;
+        Registers {
+            address: a.moved(up),
+            ..self
+        }
+    }
+
+    // The shift by one: left is up.
+    pub fn shift_by_one(self, left: bool) -> Registers
+        ensures { λ r. ⌜ Steps (shifted left) self r ⌝ }
+    {
+        Registers {
+            shift: step_round(self.shift, DISPLAY_SIZE as u8 - 1, left),
+            ..self
+        }
+    }
+
+    pub fn function_set(self, eight: bool, bits: u8) -> Registers
+        ensures { λ r. ⌜ Steps (functionSet eight bits) self r ⌝ }
+    {
+        Registers {
+            eight,
+            function: bits,
+            ..self
+        }
+    }
+
+    pub fn set(self, address: Address) -> Registers
+        ensures { λ r. ⌜ Steps (addressSet address) self r ⌝ }
+    {
+        Registers { address, ..self }
+    }
+
+    pub fn act(self, i: Instruction, display: &mut [u8; DISPLAY_SIZE]) -> Registers
+        ensures { λ r. ⌜ StepsDisplay (acted i) self (now (display .entry)) r (now (display .exit)) ⌝ }
+    {
+        match i {
+            Instruction::Nothing => self,
+            Instruction::Clear => self.clear(display),
+            Instruction::Home => self.home(),
+            Instruction::Entry { up, follow } => self.entry_mode(up, follow),
+            Instruction::Screen { on, cursor, blink } => self.screen(on, cursor, blink),
+            Instruction::Move { up } => self.step(up),
+            Instruction::Shift { left } => self.shift_by_one(left),
+            Instruction::Function { eight, bits } => self.function_set(eight, bits),
+            Instruction::Set(a) => self.set(a),
+        }
+    }
+
+    // The dispatch over all 256 codes. 00h leaves the sheet as it is.
+    pub fn obey(self, code: u8, display: &mut [u8; DISPLAY_SIZE]) -> Registers
+        ensures { λ r. ⌜ StepsDisplay (obeyed code) self (now (display .entry)) r (now (display .exit)) ⌝ }
+    {
+        self.act(decode(code), display)
+    }
+
+    // The byte at the address: what a data read puts on the bus.
+    pub fn here(self, display: &[u8; DISPLAY_SIZE], pattern: &[u8; PATTERN_SIZE]) -> u8
+        ensures { λ r. ⌜ r ≡ readHere self (now (display .entry)) (now (pattern .entry)) ⌝ }
+    {
+        let a = self.address;
+        match a {
+            Address::Display(d) => d.read(display),
+            Address::Pattern(p) => p.read(pattern),
+        }
+    }
+
+    // A data read moves the address, and never shifts.
+    pub fn read(self) -> Registers
+        ensures { λ r. ⌜ Steps passed self r ⌝ }
+    {
+        self.step(self.up)
+    }
+
+    pub fn write(
+        self,
+        byte: u8,
+        display: &mut [u8; DISPLAY_SIZE],
+        pattern: &mut [u8; PATTERN_SIZE],
+    ) -> Registers
+        ensures { λ r. ⌜ StepsBoth (written byte) self (now (display .entry)) (now (pattern .entry)) r (now (display .exit)) (now (pattern .exit)) ⌝ }
+    {
+        let a = self.address;
+        let moved = self.step(self.up);
+        match a {
+            Address::Display(d) => {
+                d.write(byte, display);
+                if self.follow {
+                    moved.shift_by_one(self.up)
+                } else {
+                    moved
+                }
+            }
+            Address::Pattern(p) => {
+                p.write(byte, pattern);
+                moved
+            }
+        }
+    }
+}

@@ -1,0 +1,73 @@
+// The whole sheet by value: the state that the meaning speaks of, and its part of soundness.
+ghost use mathlib.Core.Path.{_≡_};
+ghost use Rattle.chip.specs.Sheet.{freshSheet};
+ghost use Rattle.chip.specs.Sound.{addressFits, patternFits, soundSheet};
+use crate::address::Address;
+use crate::address::DISPLAY_SIZE;
+use crate::address::PATTERN_SIZE;
+use crate::registers::Registers;
+
+pub struct Sheet {
+    pub registers: Registers,
+    pub display: [u8; DISPLAY_SIZE],
+    pub pattern: [u8; PATTERN_SIZE],
+}
+
+impl Address {
+    // Whether the address lies in its memory.
+    pub fn fits(self) -> bool
+        ensures { λ r. ⌜ r ≡ addressFits self ⌝ }
+    {
+        match self {
+            Address::Display(d) => (d.0 as usize) < DISPLAY_SIZE,
+            Address::Pattern(p) => (p.0 as usize) < PATTERN_SIZE,
+        }
+    }
+}
+
+// Whether every entry has five bits.
+pub fn pattern_fits(pattern: [u8; PATTERN_SIZE]) -> bool
+    ensures { λ r. ⌜ r ≡ patternFits pattern ⌝ }
+{
+    let mut i = 0;
+    while i < PATTERN_SIZE {
+        if 31 < pattern[i] {
+            return false;
+        }
+        i += 1;
+    }
+    true
+}
+
+impl Sheet {
+    pub fn fresh() -> Sheet
+        ensures { λ r. ⌜ r ≡ freshSheet ⌝ }
+    {
+        let mut display = [0; DISPLAY_SIZE];
+        let mut pattern = [0; PATTERN_SIZE];
+        let registers = Registers::fresh(&mut display, &mut pattern);
+        Sheet {
+            registers,
+            display,
+            pattern,
+        }
+    }
+
+    pub fn sound(self) -> bool
+        ensures { λ r. ⌜ r ≡ soundSheet self ⌝ }
+    {
+        let r = self.registers;
+        let a = r.address;
+        let pattern = self.pattern;
+        if !a.fits() {
+            return false;
+        }
+        if 15 < r.shift {
+            return false;
+        }
+        if 15 < r.function {
+            return false;
+        }
+        pattern_fits(pattern)
+    }
+}
