@@ -8,7 +8,7 @@ use native.Mathlib.Nat.{mod-lt, mod-mod}
 use lib.ListN.{length, getD, set}
 use lib.Seq.{getD-set-same, getD-set-other}
 use Rattle.laws.specs.Pick.{pick}
-use Rattle.chip.specs.Address.{displaySize, patternSize, readDisplay, writtenDisplay, readPattern, writtenPattern}
+use Rattle.chip.specs.Address.{displaySize, patternSize, readDisplay, writtenDisplay, readPattern, writtenPattern, numberOf}
 use Rattle.chip.specs.Step.{homed, cleared, entered, lit, stepped, shifted, functionSet, addressSet, storedAt, writtenAt, written, passed}
 use Rattle.chip.specs.declared.address.DisplayAddress.{DisplayAddress}
 use Rattle.chip.specs.declared.address.PatternAddress.{PatternAddress}
@@ -129,3 +129,8 @@ display-others d e byte m n = getD-set-other m (d .0 % displaySize) (e .0 % disp
 
 pub pattern-others : (p q : PatternAddress) (byte : ℕ) (m : List ℕ) → (q .0 % patternSize ≡ p .0 % patternSize → ⊥) → readPattern q (writtenPattern p byte m) ≡ readPattern q m
 pattern-others p q byte m n = ap (λ x. x % 32) (getD-set-other m (p .0 % patternSize) (q .0 % patternSize) (byte % 32) 0 n)
+
+-- an address has seven bits at most
+pub number-small : (a : Address) → numberOf a < 128
+number-small (Display d) = omega (arith, mod-lt (d .0) {m = displaySize} (omega arith))
+number-small (Pattern p) = omega (arith, mod-lt (p .0) {m = patternSize} (omega arith))

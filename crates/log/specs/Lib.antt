@@ -1,0 +1,9 @@
+pub mod Frame
+pub mod FrontLaws
+pub mod FrameLaws
+pub mod CutLaws
+pub mod Frames
+pub mod FrameCases
+pub mod FramesLaws
+pub mod Carry
+pub mod CarryLaws

@@ -1,0 +1,56 @@
+-- What the engine's state stands for: with the two memories it is a panel, and what was last answered to it.
+use Prim.Native.Nat.{ℕ}
+use mathlib.Core.Path.{_≡_}
+use mathlib.Core.List.{List}
+use Rattle.chip.specs.Sheet.{sheetOf}
+use Rattle.chip.specs.declared.registers.Registers.{Registers}
+use Rattle.mirror.specs.Record.{recorded, holding, statusOf, done}
+use Rattle.mirror.specs.declared.answer.Answer.{Answer}
+use Rattle.mirror.specs.declared.answer.Answer.the-variants as say
+use mathlib.Core.Bool.{Bool}
+use Rattle.mirror.specs.declared.half.Half.{Half}
+use Rattle.mirror.specs.declared.half.Half.the-variants.{Waiting}
+use Rattle.mirror.specs.declared.live.Live.{Live}
+use Rattle.mirror.specs.declared.panel.Panel.{Panel}
+use Rattle.mirror.specs.declared.panel.Times.{Times}
+use Rattle.mirror.specs.declared.record.Recorded.{Recorded}
+
+-- the panel of a state and its memories
+abbrev pub panelOf : Times → Live → List ℕ → List ℕ → Panel
+panelOf t k d p = record { sheet = sheetOf (k .registers) d p; busy = k .busy; half = k .half; times = t; last = k .last }
+
+-- a panel without its memories and times; nothing is answered yet
+abbrev pub liveOf : Panel → Live
+liveOf p =
+    record {
+      registers = p .sheet .registers;
+      busy = p .busy;
+      half = p .half;
+      last = p .last;
+      answer = say.Cut;
+      byte = 0;
+      used = 0;
+    }
+
+-- the panel of a state with the answer to it
+abbrev pub recordedOf : Times → Live → List ℕ → List ℕ → Recorded
+recordedOf t k d p = recorded (panelOf t k d p) (k .answer) (k .byte) (k .used)
+
+-- what the engine's small steps promise, whatever the memories hold
+abbrev pub Refuses : Answer → ℕ → Live → Live → Type 0
+Refuses answer used k r = (t : Times) (d p : List ℕ) → recordedOf t r d p ≡ recorded (panelOf t k d p) answer 0 used
+
+abbrev pub Holds : ℕ → Half → Answer → ℕ → Live → Live → Type 0
+Holds time half answer byte k r =
+    (t : Times) (d p : List ℕ) → recordedOf t r d p ≡ recorded (holding time half (panelOf t k d p)) answer byte 14
+
+abbrev pub Waits : ℕ → Bool → Bool → ℕ → ℕ → Live → Live → Type 0
+Waits time rs wr nibble byte k r = Holds time (Waiting rs wr nibble) say.Held byte k r
+
+abbrev pub Shows : ℕ → Live → ℕ → Type 0
+Shows time k r = (t : Times) (d p : List ℕ) → r ≡ statusOf time (panelOf t k d p)
+
+abbrev pub Does : Registers → ℕ → ℕ → ℕ → ℕ → Live → Live → Type 0
+Does registers time span byte used k r =
+    (t : Times) (d p : List ℕ) →
+    recordedOf t r d p ≡ recorded (done time (sheetOf registers d p) span (panelOf t k d p)) say.Taken byte used

@@ -1,0 +1,63 @@
+-- Laws of one record that the engine's proofs cite.
+use Prim.Native.Nat.{ℕ, _%_, _<_}
+use mathlib.Core.Path.{_≡_, sym, ap, _∙_}
+use mathlib.Core.Bool.{Bool, true, false}
+use mathlib.Core.List.{List}
+use native.Mathlib.Omega.{arith}
+use native.Mathlib.Nat.{mod-lt}
+use Rattle.laws.specs.Pick.{pick}
+use Rattle.log.specs.Frame.{frameOf}
+use Rattle.chip.specs.declared.sheet.Sheet.{Sheet}
+use Rattle.mirror.specs.Panel.{soundPanel}
+use Rattle.mirror.specs.Way.{nibbleOf, joinedOf, wayOf}
+use Rattle.mirror.specs.Record.{recorded, free, holding, done, high, went, transferred, answered, recordOf}
+use Rattle.mirror.specs.declared.answer.Answer.{Answer}
+use Rattle.mirror.specs.declared.answer.Answer.the-variants as say
+use Rattle.mirror.specs.declared.half.Half.{Half}
+use Rattle.mirror.specs.declared.half.Half.the-variants.{Empty, Ignored, Waiting}
+use Rattle.mirror.specs.declared.panel.Panel.{Panel}
+use Rattle.mirror.specs.declared.way.Way.{Way}
+
+-- a nibble has four bits
+pub nibble-small : (h : Half) → nibbleOf h < 16
+nibble-small Empty = omega arith
+nibble-small (Ignored rs wr) = omega arith
+nibble-small (Waiting rs wr n) = mod-lt n (omega arith)
+
+-- a transfer by its byte and its way, once they are known
+pub by-way : (time : ℕ) (rs wr : Bool) (bus : ℕ) (p : Panel) (byte : ℕ) (w v : Way) →
+    byte ≡ joinedOf (p .sheet .registers .eight) (p .half) bus →
+    w ≡ wayOf (p .sheet .registers .eight) (p .half) (free time p) rs wr byte →
+    w ≡ v →
+    went v time rs wr bus byte p ≡ transferred time rs wr bus p
+unfolding transferred
+by-way time rs wr bus p byte w v b d e =
+    ap (λ x. went x time rs wr bus byte p) (sym e ∙ d) ∙
+    ap (λ y. went (wayOf (p .sheet .registers .eight) (p .half) (free time p) rs wr y) time rs wr bus y p) b
+
+-- equal bytes, and equal sheets, come to equal answers
+pub held-as : (time : ℕ) (rs wr : Bool) (p : Panel) (b c : ℕ) → b ≡ c →
+    recorded (holding time (Waiting rs wr (b % 16)) p) say.Held (high b) 14 ≡ recorded (holding time (Waiting rs wr (c % 16)) p) say.Held (high c) 14
+held-as time rs wr p b c e = ap (λ x. recorded (holding time (Waiting rs wr (x % 16)) p) say.Held (high x) 14) e
+
+pub shown-as : (p : Panel) (a : Answer) (b c : ℕ) → b ≡ c → recorded p a b 14 ≡ recorded p a c 14
+shown-as p a b c e = ap (λ x. recorded p a x 14) e
+
+pub done-as : (time : ℕ) (s t : Sheet) (span : ℕ) (p : Panel) (b c used : ℕ) → s ≡ t → b ≡ c →
+    recorded (done time s span p) say.Taken b used ≡ recorded (done time t span p) say.Taken c used
+done-as time s t span p b c used e f =
+    ap (λ x. recorded (done time x span p) say.Taken b used) e ∙ ap (λ y. recorded (done time t span p) say.Taken y used) f
+
+pub span-as : (time : ℕ) (s : Sheet) (span width : ℕ) (p : Panel) (b used : ℕ) → span ≡ width →
+    recorded (done time s span p) say.Taken b used ≡ recorded (done time s width p) say.Taken b used
+span-as time s span width p b used e = ap (λ x. recorded (done time s x p) say.Taken b used) e
+
+-- a sound panel is not refused
+pub answered-sound : (p : Panel) (log : List ℕ) → soundPanel p ≡ true → answered (frameOf log) p ≡ recordOf p log
+unfolding recordOf
+answered-sound p log e = sym (ap (λ b. pick b (answered (frameOf log) p) (recorded p say.Unsound 0 0)) e)
+
+-- and an unsound one is
+pub refused-unsound : (p : Panel) (log : List ℕ) → soundPanel p ≡ false → recordOf p log ≡ recorded p say.Unsound 0 0
+unfolding recordOf
+refused-unsound p log e = ap (λ b. pick b (answered (frameOf log) p) (recorded p say.Unsound 0 0)) e

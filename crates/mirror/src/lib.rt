@@ -1,0 +1,7 @@
+// The mirror: the panel, which is the sheet's machine with a clock and at most one waiting half, and its answers.
+pub mod answer;
+pub mod half;
+pub mod live;
+pub mod panel;
+pub mod record;
+pub mod way;
