@@ -1,3 +1,4 @@
+pub mod Lists
 pub mod Pick
 pub mod Ring
 pub mod Turns

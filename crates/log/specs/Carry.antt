@@ -2,10 +2,10 @@
 use Prim.Native.Nat.{ℕ, _+_, _-_, _≤_}
 use mathlib.Core.Path.{_≡_}
 use mathlib.Core.Bool.{_||_}
-use mathlib.Core.List.{List, _++_}
+use mathlib.Core.List.{List, [], _++_}
 use lib.ListN.{length, take, drop, replicate}
 use Rattle.laws.specs.Pick.{pick}
-use Rattle.log.specs.Frame.{recordSize, noLength, outsideLength}
+use Rattle.log.specs.Frame.{recordSize, noLength, outsideLength, wantsMore}
 use Rattle.log.specs.declared.carry.Carry.{Carry}
 use Rattle.log.specs.declared.carry.Filled.{Filled}
 
@@ -20,6 +20,10 @@ carriedOf c = take (c .len) (c .bytes)
 -- the one carry that holds these bytes, 0 after them
 unfoldable pub carryOf : List ℕ → Carry
 carryOf s = record { bytes = s ++ replicate (room - length s) 0; len = length s }
+
+-- the bytes that may begin a record: none where they want no more
+abbrev pub wantingOf : List ℕ → List ℕ
+wantingOf s = pick (wantsMore s) s []
 
 -- how many bytes the record at the front wants: its length first, then all that this counts
 unfoldable pub reach : List ℕ → ℕ

@@ -13,11 +13,11 @@ use Rattle.laws.specs.Pick.{pick}
 use Rattle.log.specs.declared.carry.Carry.{Carry}
 use Rattle.log.specs.Frame.{lengthOf, recordSize, noLength, outsideLength, cutAt, wantsMore, broken, frameOf, toldSize}
 use Rattle.log.specs.Frames.{then, pieces}
-use Rattle.log.specs.Carry.{room, carriedOf, carryOf, reach, upTo, toppedOf, more, filled, left, filledOf, Held, Reach}
+use Rattle.log.specs.Carry.{room, carriedOf, carryOf, wantingOf, reach, upTo, toppedOf, more, filled, left, filledOf, Held, Reach}
 use Rattle.log.specs.FrontLaws.{Front, uncut-front, length-same}
 use Rattle.log.specs.FrameLaws.{frame-append, cut-frame}
 use Rattle.log.specs.FramesLaws.{record-first}
-use Rattle.log.specs.CutLaws.{wants-few, Wants, length-first, then-body, wants, inside, broken-append, cut-either, broken-cut}
+use Rattle.log.specs.CutLaws.{none-want, wants-few, Wants, length-first, then-body, wants, inside, broken-append, cut-either, broken-cut}
 
 -- a carry holds what it was made of
 pub carried : (s : List ℕ) → carriedOf (carryOf s) ≡ s
@@ -144,6 +144,14 @@ front-reach {s} {n} t f =
     let h : 2 ≤ length s = omega arith in
     reach-same s t h ∙ rw (le-ltb (length s) 2 h, le-ltb (lengthOf s) 2 (f .least), le-ltb 64 (lengthOf s) (f .most)) (sym (f .size))
 
+-- it fits a carry
+pub reach-most : (s : List ℕ) → reach s ≤ room
+reach-most s = rw (reach-told s) (by (eqb (toldSize s) 0) (toldSize s) (told-most s))
+  where
+    by : (b : Bool) (n : ℕ) → n ≤ room → pick b 2 n ≤ room
+    by true n h = omega arith
+    by false n h = h
+
 -- a carry that is filled
 pub fill-carried : (c p : List ℕ) → carriedOf (filledOf c p .carry) ≡ filled c p
 unfolding toppedOf
@@ -169,15 +177,26 @@ module _ (c p : List ℕ) where
   pub fill-broken : broken (filled c p) ≡ true → broken (c ++ p) ≡ true
   fill-broken b = rw fill-rest at (broken-append v r b)
 
-  -- where it is whole, it is the first record, nothing more, and the rest is read on from the part
-  pub fill-whole : wantsMore c ≡ true → cutAt (filled c p) ≡ false → pieces (c ++ p) ≡ then (filled c p ∷ []) (pieces (left c p))
-  fill-whole w u =
+  -- where it is whole, it is one record and nothing more
+  pub fill-front : wantsMore c ≡ true → cutAt (filled c p) ≡ false → Front (filled c p) (length (filled c p))
+  fill-front w u =
       let f = uncut-front v u in
       let n : reach (c ++ p) ≡ recordSize v = ap reach (sym fill-rest) ∙ front-reach r f in
       let l : length v ≡ length c + min (reach (c ++ p) - length c) (length p) =
       length-append c (more c p) ∙ ap (λ (m : ℕ). length c + m) (length-take (reach (c ++ p) - length c) p) in
       let e : recordSize v ≡ length v = omega (arith, wants-reach c p w, f .fits) in
-      ap pieces (sym fill-rest) ∙ record-first r (rw e at f)
+      rw e at f
+
+  -- and the rest is read on from the part
+  pub fill-whole : wantsMore c ≡ true → cutAt (filled c p) ≡ false → pieces (c ++ p) ≡ then (filled c p ∷ []) (pieces (left c p))
+  fill-whole w u = ap pieces (sym fill-rest) ∙ record-first r (fill-front w u)
+
+  -- it never outgrows a carry
+  pub fill-few : length c ≤ room → length (filled c p) ≤ room
+  fill-few h =
+      let l : length v ≡ length c + min (reach (c ++ p) - length c) (length p) =
+      length-append c (more c p) ∙ ap (λ (m : ℕ). length c + m) (length-take (reach (c ++ p) - length c) p) in
+      omega (arith, reach-most (c ++ p))
 
   -- so what is read off the carry is what stands at the front of all the bytes
   pub fill-frame : frameOf (filled c p) ≡ frameOf (c ++ p)
@@ -186,3 +205,19 @@ module _ (c p : List ℕ) where
     by true b w o = ap (λ (m : List ℕ). frameOf (c ++ m)) (fill-wants w)
     by false true w o = cut-frame v (broken-cut v o) ∙ sym (cut-frame (c ++ p) (broken-cut (c ++ p) (fill-broken o)))
     by false false w o = sym (frame-append v r (cut-either v ∙ rw (w, o))) ∙ ap frameOf fill-rest
+
+-- bytes that want more, or none
+pub wanting-wants : (s : List ℕ) → wantsMore (wantingOf s) ≡ true
+wanting-wants s = by (wantsMore s) refl
+  where
+    by : (b : Bool) → wantsMore s ≡ b → wantsMore (pick b s []) ≡ true
+    by true e = e
+    by false e = none-want
+
+-- so they are kept
+pub keep-wanting : (s : List ℕ) → wantsMore s ≡ true → carryOf (take room s) ≡ carryOf (wantingOf s)
+keep-wanting s w = ap carryOf (take-all room s (omega (arith, wants-few s w)) ∙ sym (ap (λ b. pick b s []) w))
+
+-- or given up
+pub drop-broken : (s : List ℕ) → wantsMore s ≡ false → carryOf [] ≡ carryOf (wantingOf s)
+drop-broken s w = ap carryOf (sym (ap (λ b. pick b s []) w))

@@ -5,7 +5,7 @@ ghost use mathlib.Core.List.{[]};
 ghost use lib.ListN.{length, take};
 ghost use lib.Seq.{paste};
 ghost use Rattle.log.specs.Frame.{frameOf, wantsMore};
-ghost use Rattle.log.specs.Carry.{room, carriedOf, carryOf, toppedOf, filledOf, Held, Reach};
+ghost use Rattle.log.specs.Carry.{room, carriedOf, carryOf, wantingOf, toppedOf, filledOf, Held, Reach};
 use crate::frame::Frame;
 use crate::front::frame;
 use crate::front::told;
@@ -37,7 +37,7 @@ fn least(a: usize, b: usize) -> usize
 }
 
 // How many bytes are carried: `len`, or all where it says more.
-fn carried(bytes: [u8; ROOM], len: usize) -> usize
+pub fn carried(bytes: [u8; ROOM], len: usize) -> usize
     ensures { λ r. ⌜ Held bytes len r ⌝ }
 {
     if len < ROOM {
@@ -105,6 +105,18 @@ impl Carry {
         let bytes = self.bytes;
         let held = carried(bytes, self.len);
         wants_more(&bytes[..held])
+    }
+
+    // The same bytes, 0 after them; none where they want no more.
+    pub fn wanting(self) -> Carry
+        ensures { λ r. ⌜ r ≡ carryOf (wantingOf (carriedOf self)) ⌝ }
+    {
+        if self.wants_more() {
+            let bytes = self.bytes;
+            let held = carried(bytes, self.len);
+            return Carry::keep(&bytes[..held]);
+        }
+        Carry::empty()
     }
 
     // How many bytes its record wants: the length's own two until they are there, then all that it counts.

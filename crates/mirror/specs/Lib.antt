@@ -4,3 +4,7 @@ pub mod Way
 pub mod Record
 pub mod Live
 pub mod RecordLaws
+pub mod Run
+pub mod RunLaws
+pub mod Stream
+pub mod StreamLaws

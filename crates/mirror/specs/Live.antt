@@ -14,6 +14,7 @@ use Rattle.mirror.specs.declared.live.Live.{Live}
 use Rattle.mirror.specs.declared.panel.Panel.{Panel}
 use Rattle.mirror.specs.declared.panel.Times.{Times}
 use Rattle.mirror.specs.declared.record.Recorded.{Recorded}
+use Rattle.mirror.specs.declared.totals.Totals.{Totals}
 
 -- the panel of a state and its memories
 abbrev pub panelOf : Times → Live → List ℕ → List ℕ → Panel
@@ -54,3 +55,7 @@ abbrev pub Does : Registers → ℕ → ℕ → ℕ → ℕ → Live → Live �
 Does registers time span byte used k r =
     (t : Times) (d p : List ℕ) →
     recordedOf t r d p ≡ recorded (done time (sheetOf registers d p) span (panelOf t k d p)) say.Taken byte used
+
+-- the totals of a state, its memories and the counts
+abbrev pub totalsOf : Times → Live → List ℕ → List ℕ → List ℕ → ℕ → Totals
+totalsOf t k d p counts records = record { panel = panelOf t k d p; counts = counts; records = records }

@@ -4,4 +4,6 @@ pub mod half;
 pub mod live;
 pub mod panel;
 pub mod record;
+pub mod stream;
+pub mod totals;
 pub mod way;

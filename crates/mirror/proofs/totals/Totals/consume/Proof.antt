@@ -1,0 +1,105 @@
+-- The loop's invariant: what is answered so far, and what is left of the log, are all.
+use Prim.Native.Nat.{ℕ, _-_}
+use mathlib.Core.Path.{_≡_, ap, _∙_}
+use mathlib.Core.List.{List}
+use native.Mathlib.Omega.{arith}
+use borrow.Author.Needs.{needs}
+use denote.Ref.{now}
+use lib.ListN.{length, take, drop}
+use Rattle.laws.specs.Lists.{all-left}
+use Rattle.log.specs.Frame.{frameOf}
+use Rattle.mirror.specs.Record.{answered}
+use Rattle.mirror.specs.Run.{consumedOf}
+use Rattle.mirror.specs.Live.{totalsOf}
+use Rattle.mirror.specs.RunLaws.{Reading, reading-starts, reading-ends, reading-goes}
+use Rattle.mirror.specs.declared.live.Live.{Live}
+use Rattle.mirror.specs.declared.panel.Panel.{Panel}
+use Rattle.mirror.proofs.totals.Totals.consume.Statement.{statement}
+use Rattle.mirror.proofs.totals.Totals.consume.Tie as tie
+
+abbrev Inv-loop : tie.InvT-loop
+Inv-loop log times display₀ pattern₀ counts₀ records₀ live₀ at₀ display pattern counts records live at =
+    Reading log (totalsOf times live₀ display₀ pattern₀ counts₀ records₀) (totalsOf times live display pattern counts records) at
+
+abbrev μ-loop : tie.MeasureT-loop
+μ-loop log times display₀ pattern₀ counts₀ records₀ live₀ at₀ display pattern counts records live at = length log - at
+
+-- the part that a turn is lent is all that is left
+whole-part : (log : List ℕ) (at : ℕ) (p : Panel) → answered (frameOf (take (length log - at) (drop at log))) p ≡ answered (frameOf (drop at log)) p
+whole-part log at p = ap (λ s. answered (frameOf s) p) (all-left log at)
+
+of-requires : tie.Need-of-requires Inv-loop μ-loop
+of-requires c κs = search needs
+
+loop-holds : tie.Need-loop-holds Inv-loop μ-loop
+loop-holds c = reading-starts _ _
+
+sub-turn : tie.Need-sub-turn Inv-loop μ-loop
+sub-turn c = omega arith
+
+part-turn-start : tie.Need-part-turn-start Inv-loop μ-loop
+part-turn-start c = omega arith
+
+part-turn-end : tie.Need-part-turn-end Inv-loop μ-loop
+part-turn-end c = omega arith
+
+turn-requires : tie.Need-turn-requires Inv-loop μ-loop
+turn-requires c κs = search needs
+
+panel-requires : tie.Need-panel-requires Inv-loop μ-loop
+panel-requires c κs = search needs
+
+returns : tie.Need-returns Inv-loop μ-loop
+returns c =
+    let l = c .before .before .before .before .before .before .loop in
+    let a = c .before .before .before .before .before .before .before .before .before .before .before .before .before .before .before .args in
+    rw (c .panel2 .ensures)
+    (reading-ends (l .inv) _ (c .before .before .turn .ensures ∙ whole-part _ (l .at) _) (c .before .if1 .taken) ∙
+    ap
+    (λ (k : Live).
+    consumedOf
+    (totalsOf (a .self .panel .times) k (a .self .panel .sheet .display) (a .self .panel .sheet .pattern) (a .self .counts) (a .self .records))
+    (now (a .log)))
+    (c .before .before .before .before .before .before .before .of .ensures))
+
+tally-requires : tie.Need-tally-requires Inv-loop μ-loop
+tally-requires c κs = search needs
+
+raise-requires : tie.Need-raise-requires Inv-loop μ-loop
+raise-requires c κs = search needs
+
+add-at : tie.Need-add-at Inv-loop μ-loop
+add-at c =
+    let l = c .before .before .before .before .before .before .before .before .loop in
+    omega (arith, c .before .before .before .before .before .before .before .before .before .before .before .before .before .before .before .before .before .good, reading-goes (l .inv) _ (c .before .before .before .before .turn .ensures ∙ whole-part _ (l .at) _) (c .before .before .before .if1 .left) .within)
+
+loop-less : tie.Need-loop-less Inv-loop μ-loop
+loop-less c =
+    let l = c .before .before .before .before .before .before .before .before .loop in
+    omega (arith, reading-goes (l .inv) _ (c .before .before .before .before .turn .ensures ∙ whole-part _ (l .at) _) (c .before .before .before .if1 .left) .within)
+
+loop-again : tie.Need-loop-again Inv-loop μ-loop
+loop-again c =
+    let l = c .before .before .before .before .before .before .before .before .loop in
+    rw (c .raise .ensures, c .before .tally .ensures)
+    (reading-goes (l .inv) _ (c .before .before .before .before .turn .ensures ∙ whole-part _ (l .at) _) (c .before .before .before .if1 .left))
+
+pub consume-spec : {M : Type 1} → statement M
+consume-spec =
+    tie.close
+    (tie.spec
+    Inv-loop
+    μ-loop
+    of-requires
+    loop-holds
+    sub-turn
+    part-turn-start
+    part-turn-end
+    turn-requires
+    panel-requires
+    returns
+    tally-requires
+    raise-requires
+    add-at
+    loop-less
+    loop-again)

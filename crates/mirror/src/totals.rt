@@ -1,0 +1,83 @@
+// What a run has come to, and the loop over the records of a log.
+ghost use mathlib.Core.Path.{_≡_};
+ghost use lib.ListN.{replicate};
+ghost use Rattle.mirror.specs.Run.{raised, tallied, started, consumedOf};
+use crate::answer::Answer;
+use crate::live::Live;
+use crate::panel::Panel;
+
+// The panel, the counts of answers 0 to 7, and the number of records.
+pub struct Totals {
+    pub panel: Panel,
+    pub counts: [u64; 8],
+    pub records: u64,
+}
+
+// The totals after the whole records at the front of a log, and how many bytes these are.
+pub struct Consumed {
+    pub totals: Totals,
+    pub at: usize,
+}
+
+// One more. A count stays at its greatest number, which no real log reaches.
+fn raise(n: u64) -> u64
+    ensures { λ r. ⌜ r ≡ raised n ⌝ }
+{
+    if n < u64::MAX { n + 1 } else { n }
+}
+
+// The count of an answer, raised.
+fn tally(counts: &mut [u64; 8], answer: Answer)
+    ensures { λ _. ⌜ now (counts .exit) ≡ tallied (now (counts .entry)) answer ⌝ }
+{
+    let n = answer.number() as usize;
+    if n < 8 {
+        counts[n] = raise(counts[n]);
+    }
+}
+
+impl Totals {
+    // Nothing is read yet.
+    pub fn start(panel: Panel) -> Totals
+        ensures { λ r. ⌜ r ≡ started panel ⌝ }
+    {
+        Totals {
+            panel,
+            counts: [0; 8],
+            records: 0,
+        }
+    }
+
+    // Every whole record at the front of the log, one after the other.
+    pub fn consume(self, log: &[u8]) -> Consumed
+        ensures { λ r. ⌜ r ≡ consumedOf self (now (log .entry)) ⌝ }
+    {
+        let panel = self.panel;
+        let sheet = panel.sheet;
+        let times = panel.times;
+        let mut display = sheet.display;
+        let mut pattern = sheet.pattern;
+        let mut counts = self.counts;
+        let mut records = self.records;
+        let mut live = Live::of(panel);
+        let mut at: usize = 0;
+        loop {
+            live = live.turn(times, &log[at..], &mut display, &mut pattern);
+            let used = live.used;
+            if used == 0 {
+                return Consumed {
+                    totals: Totals {
+                        panel: live.panel(times, display, pattern),
+                        counts,
+                        records,
+                    },
+                    at,
+                };
+            }
+            let answer = live.answer;
+            tally(&mut counts, answer);
+            records = raise(records);
+            at += used;
+        }
+    }
+}

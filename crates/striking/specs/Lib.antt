@@ -1,0 +1,9 @@
+pub mod Machine
+pub mod MachineLaws
+pub mod Striking
+pub mod Laws
+pub mod StrikingLaws
+pub mod Instances
+pub mod Toy
+pub mod ToyLaws
+pub mod Naive
