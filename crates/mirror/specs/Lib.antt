@@ -8,3 +8,4 @@ pub mod Run
 pub mod RunLaws
 pub mod Stream
 pub mod StreamLaws
+pub mod NextLaws

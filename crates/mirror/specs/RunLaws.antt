@@ -8,10 +8,10 @@ use lib.ListN.{length, take, drop, length-drop}
 use lib.Seq.{drop-drop}
 use lib.Dec.{ltb}
 use Rattle.laws.specs.Pick.{pick}
-use Rattle.log.specs.Frame.{frameOf, sizeOf}
+use Rattle.log.specs.Frame.{cutAt, frameOf, sizeOf}
 use Rattle.log.specs.Frames.{Pieces, frames, tail}
 use Rattle.log.specs.FrontLaws.{front}
-use Rattle.log.specs.FrameLaws.{size-whole, size-cut, frame-cut, frame-take}
+use Rattle.log.specs.FrameLaws.{size-whole, size-cut, frame-cut, cut-frame, frame-take}
 use Rattle.log.specs.FramesLaws.{frames-cut, tail-cut, front-next}
 use Rattle.log.specs.declared.frame.Frame.{Frame}
 use Rattle.log.specs.declared.frame.Frame.the-variants as frame
@@ -126,3 +126,14 @@ reading-goes {log} {start} {t} {at} i r e z =
       totals = ap (λ x. onward (counted t r) (frames x)) (sym d) ∙ g .totals ∙ i .totals;
       rest = ap tail (sym d) ∙ g .rest ∙ i .rest;
     }
+
+-- whether a record is whole shows in the bytes used
+pub cut-used : (s : List ℕ) (p : Panel) → answered (frameOf s) p .used ≡ 0 → cutAt s ≡ true
+cut-used s p z = frame-cut s (size-cut s (sym (answered-used (frameOf s) p) ∙ z))
+
+pub uncut-used : (s : List ℕ) (p : Panel) → (answered (frameOf s) p .used ≡ 0 → ⊥) → cutAt s ≡ false
+uncut-used s p z = by (cutAt s) refl
+  where
+    by : (b : Bool) → cutAt s ≡ b → cutAt s ≡ false
+    by true u = absurd (z (answered-used (frameOf s) p ∙ ap sizeOf (cut-frame s u)))
+    by false u = u

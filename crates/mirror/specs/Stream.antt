@@ -5,16 +5,22 @@ use mathlib.Core.List.{List, [], _++_}
 use lib.ListN.{length, replicate}
 use lib.Dec.{ltb}
 use Rattle.laws.specs.Pick.{pick}
-use Rattle.log.specs.Frame.{wantsMore}
+use Rattle.log.specs.Frame.{frameOf, cutAt, wantsMore}
 use Rattle.log.specs.Frames.{frames, tail, recordsOf}
-use Rattle.log.specs.Carry.{carriedOf, carryOf, wantingOf, more}
+use Rattle.log.specs.Carry.{carriedOf, carryOf, wantingOf, more, filled}
 use Rattle.mirror.specs.Panel.{soundPanel, freshPanel}
 use Rattle.mirror.specs.Record.{answered}
+use Rattle.mirror.specs.Record.{answered}
 use Rattle.mirror.specs.Run.{capped, started, counted, onward}
+use Rattle.mirror.specs.declared.answer.Answer.{Answer}
+use Rattle.mirror.specs.declared.answer.Answer.the-variants as say
 use Rattle.mirror.specs.declared.panel.Panel.{Panel}
 use Rattle.mirror.specs.declared.totals.Totals.{Totals}
 use Rattle.mirror.specs.declared.stream.Stream.{Stream}
 use Rattle.mirror.specs.declared.stream.Run.{Run}
+use Rattle.mirror.specs.declared.stream.Next.{Next}
+use Rattle.mirror.specs.declared.stream.Reply.{Reply}
+use Rattle.mirror.specs.declared.stream.Reply.the-variants.{Answered, More, Cut}
 
 -- what a log read with an unsound panel is counted with: only its number of records is shown
 abbrev pub standIn : Panel
@@ -42,6 +48,20 @@ unfoldable pub feedOf : Stream → List ℕ → Stream
 feedOf st part =
     let s = waitingBytes st ++ part in
     pick (st .over) st (restedOf st (onward (st .totals) (frames s)) (tail s))
+
+-- an answer given alone: 10 to each record where the panel was refused
+abbrev pub replyOf : Stream → Answer → ℕ → Reply
+replyOf st answer byte = pick (st .refused) (Answered say.Unsound 0) (Answered answer byte)
+
+-- the next record alone, out of the bytes that wait and no more of the part than it needs
+unfoldable pub nextOf : Stream → List ℕ → Next
+nextOf st part =
+    let v = filled (waitingBytes st) part in
+    let n = length (more (waitingBytes st) part) in
+    let r = answered (frameOf v) (st .totals .panel) in
+    pick (st .over) (record { stream = st; taken = 0; reply = Cut })
+    (pick (cutAt v) (record { stream = restedOf st (st .totals) v; taken = n; reply = pick (wantsMore v) More Cut })
+    (record { stream = restedOf st (counted (st .totals) r) []; taken = n; reply = replyOf st (r .answer) (r .byte) }))
 
 -- the end: bytes that still wait are a cut
 abbrev pub cutOf : Stream → Bool

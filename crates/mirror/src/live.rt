@@ -14,6 +14,7 @@ use crate::answer::Answer;
 use crate::half::Half;
 use crate::panel::Panel;
 use crate::panel::Times;
+use crate::record::Recorded;
 use crate::way::Way;
 use crate::way::decide;
 use crate::way::joined;
@@ -229,6 +230,26 @@ impl Live {
                     self.transfer(times, time, rs, rw, bus, display, pattern)
                 }
             }
+        }
+    }
+}
+
+impl Panel {
+    // One record, of a panel that is known to be sound: taken apart, one turn, and put together.
+    pub fn turned(self, log: &[u8]) -> Recorded
+        ensures { λ r. ⌜ r ≡ answered (frameOf (now (log .entry))) self ⌝ }
+    {
+        let times = self.times;
+        let s = self.sheet;
+        let mut display = s.display;
+        let mut pattern = s.pattern;
+        let live = Live::of(self).turn(times, log, &mut display, &mut pattern);
+        let answer = live.answer;
+        Recorded {
+            panel: live.panel(times, display, pattern),
+            answer,
+            byte: live.byte,
+            used: live.used,
         }
     }
 }

@@ -1,7 +1,8 @@
 // The streaming form: a log in parts of any size, the bytes between two parts carried in the state. And a run, which is
 // one part.
 ghost use mathlib.Core.Path.{_≡_};
-ghost use Rattle.mirror.specs.Stream.{startOf, restedOf, feedOf, endOf, runOf};
+ghost use Rattle.mirror.specs.Stream.{startOf, restedOf, feedOf, replyOf, nextOf, endOf, runOf};
+use crate::answer::Answer;
 use crate::panel::Panel;
 use crate::totals::Totals;
 use log::carry::Carry;
@@ -24,6 +25,20 @@ pub struct Run {
     pub records: u64,
     pub cut: bool,
     pub refused: bool,
+}
+
+// What a call for one answer comes to: the answer, more bytes wanted, or a cut, which is final.
+pub enum Reply {
+    Answered { answer: Answer, byte: u8 },
+    More,
+    Cut,
+}
+
+// The stream after it, and how many bytes of the part were taken.
+pub struct Next {
+    pub stream: Stream,
+    pub taken: usize,
+    pub reply: Reply,
 }
 
 impl Stream {
@@ -92,6 +107,62 @@ impl Stream {
         let after = second.totals;
         let at = taken + second.at;
         self.rest(after, &part[at..])
+    }
+
+    // The answer to a record, or 10 to each where the panel was refused.
+    fn reply(self, answer: Answer, byte: u8) -> Reply
+        ensures { λ r. ⌜ r ≡ replyOf self answer byte ⌝ }
+    {
+        if self.refused {
+            return Reply::Answered {
+                answer: Answer::Unsound,
+                byte: 0,
+            };
+        }
+        Reply::Answered { answer, byte }
+    }
+
+    // The next record alone: no more of the part is taken than it needs.
+    pub fn next(self, part: &[u8]) -> Next
+        ensures { λ r. ⌜ r ≡ nextOf self (now (part .entry)) ⌝ }
+    {
+        if self.over {
+            return Next {
+                stream: self,
+                taken: 0,
+                reply: Reply::Cut,
+            };
+        }
+        let totals = self.totals;
+        let carry = self.carry;
+        let filled = carry.wanting().fill(part);
+        let taken = filled.taken;
+        let head = filled.carry;
+        let bytes = head.bytes;
+        let held = carried(bytes, head.len);
+        let panel = totals.panel;
+        let r = panel.turned(&bytes[..held]);
+        if r.used == 0 {
+            let stream = self.rest(totals, &bytes[..held]);
+            if stream.over {
+                return Next {
+                    stream,
+                    taken,
+                    reply: Reply::Cut,
+                };
+            }
+            return Next {
+                stream,
+                taken,
+                reply: Reply::More,
+            };
+        }
+        let answer = r.answer;
+        Next {
+            stream: self.rest(totals.count(r), &bytes[..0]),
+            taken,
+            reply: self.reply(answer, r.byte),
+        }
     }
 
     // The end of the log.

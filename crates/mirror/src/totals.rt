@@ -1,10 +1,11 @@
 // What a run has come to, and the loop over the records of a log.
 ghost use mathlib.Core.Path.{_≡_};
 ghost use lib.ListN.{replicate};
-ghost use Rattle.mirror.specs.Run.{raised, tallied, started, consumedOf};
+ghost use Rattle.mirror.specs.Run.{raised, tallied, started, counted, consumedOf};
 use crate::answer::Answer;
 use crate::live::Live;
 use crate::panel::Panel;
+use crate::record::Recorded;
 
 // The panel, the counts of answers 0 to 7, and the number of records.
 pub struct Totals {
@@ -45,6 +46,21 @@ impl Totals {
             panel,
             counts: [0; 8],
             records: 0,
+        }
+    }
+
+    // One record more, answered so.
+    pub fn count(self, r: Recorded) -> Totals
+        ensures { λ t. ⌜ t ≡ counted self r ⌝ }
+    {
+        let panel = r.panel;
+        let answer = r.answer;
+        let mut counts = self.counts;
+        tally(&mut counts, answer);
+        Totals {
+            panel,
+            counts,
+            records: raise(self.records),
         }
     }
 

@@ -1,0 +1,19 @@
+use mathlib.Core.Path.{_∙_}
+use borrow.Author.Needs.{needs}
+use Rattle.mirror.proofs.panel.Panel.turned.Statement.{statement}
+use Rattle.mirror.proofs.panel.Panel.turned.Tie as tie
+
+of-requires : tie.Need-of-requires
+of-requires c κs = search needs
+
+turn-requires : tie.Need-turn-requires
+turn-requires c κs = search needs
+
+panel-requires : tie.Need-panel-requires
+panel-requires c κs = search needs
+
+returns : tie.Need-returns
+returns c = rw (c .panel .ensures) (c .before .turn .ensures ∙ rw (c .before .before .before .before .of .ensures))
+
+pub turned-spec : {M : Type 1} → statement M
+turned-spec = tie.close (tie.spec of-requires turn-requires panel-requires returns)
