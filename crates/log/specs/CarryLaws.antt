@@ -152,6 +152,12 @@ reach-most s = rw (reach-told s) (by (eqb (toldSize s) 0) (toldSize s) (told-mos
     by true n h = omega arith
     by false n h = h
 
+-- the first k of a list, and what follows as many
+take-drop-length : (k : ℕ) (l : List ℕ) → take k l ++ drop (length (take k l)) l ≡ l
+take-drop-length zero l = refl
+take-drop-length (suc k) [] = refl
+take-drop-length (suc k) (x ∷ l) = ap (λ m. x ∷ m) (take-drop-length k l)
+
 -- a carry that is filled
 pub fill-carried : (c p : List ℕ) → carriedOf (filledOf c p .carry) ≡ filled c p
 unfolding toppedOf
@@ -168,6 +174,10 @@ module _ (c p : List ℕ) where
   -- nothing is lost
   pub fill-rest : filled c p ++ left c p ≡ c ++ p
   fill-rest = upTo-rest (reach (c ++ p)) c p
+
+  -- and what it took, with what is left, is the part
+  pub more-left : more c p ++ left c p ≡ p
+  more-left = take-drop-length (reach (c ++ p) - length c) p
 
   -- where the record still wants more, the whole part was taken
   pub fill-wants : wantsMore (filled c p) ≡ true → more c p ≡ p

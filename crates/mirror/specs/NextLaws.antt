@@ -1,21 +1,22 @@
 -- Laws of the answers given one at a time: the next record alone is a part fed.
-use Prim.Native.Nat.{ℕ}
+use Prim.Native.Nat.{ℕ, _-_, _≤_}
+use native.Mathlib.Omega.{arith}
 use mathlib.Core.Path.{_≡_, refl, sym, ap, _∙_}
 use mathlib.Core.Bool.{Bool, true, false, not}
-use mathlib.Core.List.{List, [], _∷_, append-nil}
-use lib.ListN.{length}
+use mathlib.Core.List.{List, [], _∷_, _++_, append-nil}
+use lib.ListN.{length, length-take}
 use Rattle.laws.specs.Pick.{pick}
 use Rattle.log.specs.Frame.{frameOf, cutAt, wantsMore}
 use Rattle.log.specs.Frames.{Pieces, frames, tail}
 use Rattle.log.specs.CutLaws.{none-want, wants-cut}
 use Rattle.log.specs.FramesLaws.{frames-cut, tail-cut, record-first}
-use Rattle.log.specs.Carry.{carriedOf, more, filled}
-use Rattle.log.specs.CarryLaws.{wanting-wants, fill-front}
+use Rattle.log.specs.Carry.{carriedOf, reach, more, filled, left}
+use Rattle.log.specs.CarryLaws.{wanting-wants, fill-front, more-left}
 use Rattle.mirror.specs.Record.{answered}
 use Rattle.mirror.specs.Run.{counted, onward}
 use Rattle.mirror.specs.RunLaws.{uncut-used, cut-used}
 use Rattle.mirror.specs.Stream.{waitingBytes, restedOf, feedOf, replyOf, nextOf}
-use Rattle.mirror.specs.StreamLaws.{Fed, feed-open}
+use Rattle.mirror.specs.StreamLaws.{Fed, feed-open, feed-append}
 use Rattle.mirror.specs.declared.record.Recorded.{Recorded}
 use Rattle.mirror.specs.declared.stream.Stream.{Stream}
 use Rattle.mirror.specs.declared.stream.Next.{Next}
@@ -97,3 +98,22 @@ next-feeds st part o =
         ap (λ (x : Pieces). restedOf st (onward (st .totals) (x .records)) (x .rest)) p ∙
         ap (λ fs. restedOf st (onward (st .totals) (v ∷ fs)) (tail [])) (frames-cut [] n) ∙
         ap (restedOf st (onward (st .totals) (v ∷ []))) (tail-cut [] n))
+
+-- and so is the rest of the part, fed after it
+pub next-on : (st : Stream) (part : List ℕ) → st .over ≡ false → feedOf (nextOf st part .stream) (left (waitingBytes st) part) ≡ feedOf st part
+next-on st part o =
+    let c = waitingBytes st in
+    ap (λ x. feedOf x (left c part)) (next-feeds st part o) ∙ feed-append st (more c part) (left c part) ∙ ap (feedOf st) (more-left c part)
+
+-- no more than the part is taken
+pub next-within : (st : Stream) (part : List ℕ) → nextOf st part .taken ≤ length part
+unfolding nextOf nextBy
+next-within st part = by (st .over) (cutAt (filled (waitingBytes st) part))
+  where
+    taken : length (more (waitingBytes st) part) ≤ length part
+    taken = omega (arith, length-take (reach (waitingBytes st ++ part) - length (waitingBytes st)) part)
+
+    by : (o k : Bool) → nextBy st o k (filled (waitingBytes st) part) (length (more (waitingBytes st) part)) .taken ≤ length part
+    by true k = omega arith
+    by false true = taken
+    by false false = taken
