@@ -1,0 +1,183 @@
+// The mirror's logic in plain C, written for speed: the twin that `glazomir` is measured against. It reads a log on
+// standard input in blocks of 64 KiB and prints the same twelve lines.
+#include <stdint.h>
+#include <stdio.h>
+#include <string.h>
+#include <unistd.h>
+
+enum { TAKEN, HELD, STATUS, IGNORED, TORN, BACK, BAD, NONE };
+enum { EMPTY, MISSED, WAITING };
+enum { RESET_TIME = 10000, LONG_TIME = 1640, SHORT_TIME = 40 };
+
+typedef struct {
+    uint64_t busy, last, counts[8], records;
+    uint8_t display[16], pattern[32];
+    uint8_t in_pattern, address, shift;
+    uint8_t up, follow, on, cursor, blink, eight, function;
+    uint8_t half, half_rs, half_rw, nibble;
+} panel;
+
+static void fresh(panel *p) {
+    memset(p->display, 0x20, sizeof p->display);
+    memset(p->pattern, 0, sizeof p->pattern);
+    p->in_pattern = p->address = p->shift = 0;
+    p->up = 1;
+    p->follow = p->on = p->cursor = p->blink = 0;
+    p->eight = 1;
+    p->function = 0;
+    p->half = EMPTY;
+}
+
+static inline void step(panel *p, int up) {
+    uint8_t last = p->in_pattern ? 31 : 15;
+    p->address = (p->address + (up ? 1 : last)) & last;
+}
+
+static inline void obey(panel *p, uint8_t code) {
+    if (code >= 0x80) {
+        p->in_pattern = 0;
+        p->address = code & 15;
+    } else if (code >= 0x40) {
+        p->in_pattern = 1;
+        p->address = code & 31;
+    } else if (code >= 0x20) {
+        p->eight = code >> 4 & 1;
+        p->function = code & 15;
+    } else if (code >= 0x18) {
+        p->shift = (p->shift + (code & 4 ? 15 : 1)) & 15;
+    } else if (code >= 0x10) {
+        step(p, code >> 2 & 1);
+    } else if (code >= 0x08) {
+        p->on = code >> 2 & 1;
+        p->cursor = code >> 1 & 1;
+        p->blink = code & 1;
+    } else if (code >= 0x04) {
+        p->up = code >> 1 & 1;
+        p->follow = code & 1;
+    } else {
+        if (code == 0x01) {
+            memset(p->display, 0x20, sizeof p->display);
+            p->up = 1;
+        }
+        p->in_pattern = p->address = p->shift = 0;
+    }
+}
+
+static inline void store(panel *p, uint8_t byte) {
+    if (p->in_pattern) {
+        p->pattern[p->address] = byte & 31;
+        step(p, p->up);
+    } else {
+        p->display[p->address] = byte;
+        step(p, p->up);
+        if (p->follow) p->shift = (p->shift + (p->up ? 1 : 15)) & 15;
+    }
+}
+
+static inline int finish(panel *p, uint64_t time, int rs, uint8_t byte) {
+    if (rs) {
+        store(p, byte);
+        p->busy = time + SHORT_TIME;
+        return TAKEN;
+    }
+    if (byte == 0) return NONE;
+    obey(p, byte);
+    p->busy = time + (byte < 4 ? LONG_TIME : SHORT_TIME);
+    return TAKEN;
+}
+
+static inline int first(panel *p, uint64_t time, int rs, int rw, uint8_t byte) {
+    p->half_rs = rs;
+    p->half_rw = rw;
+    p->half = WAITING;
+    if (rw && !rs) {
+        p->nibble = p->address & 15;
+        return HELD;
+    }
+    if (time < p->busy) {
+        p->half = MISSED;
+        return IGNORED;
+    }
+    p->nibble = rw ? (p->in_pattern ? p->pattern[p->address] : p->display[p->address]) & 15 : byte >> 4;
+    return HELD;
+}
+
+static inline int transfer(panel *p, uint64_t time, int rs, int rw, uint8_t byte) {
+    p->last = time;
+    if (p->eight) {
+        if (rw && !rs) return STATUS;
+        if (time < p->busy) return IGNORED;
+        if (!rw) return finish(p, time, rs, byte);
+        step(p, p->up);
+        p->busy = time + SHORT_TIME;
+        return TAKEN;
+    }
+    if (p->half == EMPTY) return first(p, time, rs, rw, byte);
+    int missed = p->half == MISSED;
+    p->half = EMPTY;
+    if (p->half_rs != rs || p->half_rw != rw) return TORN;
+    if (missed) return IGNORED;
+    if (!rw) return finish(p, time, rs, p->nibble << 4 | byte >> 4);
+    if (!rs) return STATUS;
+    step(p, p->up);
+    p->busy = time + SHORT_TIME;
+    return TAKEN;
+}
+
+// Every whole record at the front; answers how many bytes they are, or sets cut where a length is wrong.
+static size_t consume(panel *p, const uint8_t *log, size_t n, int *cut) {
+    size_t at = 0;
+    while (n - at >= 2) {
+        const uint8_t *r = log + at;
+        uint16_t length, kind;
+        uint64_t time;
+        memcpy(&length, r, 2);
+        if (length < 2 || length > 64) {
+            *cut = 1;
+            return at;
+        }
+        if (n - at - 2 < length) return at;
+        memcpy(&kind, r + 2, 2);
+        at += length + 2;
+        int answer = BAD;
+        if (kind == 1 && length == 12) {
+            memcpy(&time, r + 4, 8);
+            if (time >> 48 == 0 && r[12] < 4)
+                answer = time < p->last ? BACK : transfer(p, time, r[12] & 1, r[12] >> 1, r[13]);
+        } else if (kind == 2 && length == 10) {
+            memcpy(&time, r + 4, 8);
+            if (time >> 48 == 0) {
+                answer = time < p->last ? BACK : TAKEN;
+                if (answer == TAKEN) {
+                    fresh(p);
+                    p->last = time;
+                    p->busy = time + RESET_TIME;
+                }
+            }
+        }
+        p->counts[answer]++;
+        p->records++;
+    }
+    return at;
+}
+
+static uint8_t block[65536 + 66];
+
+int main(void) {
+    static const char *names[] = {"taken", "held", "status", "ignored", "torn", "back", "bad", "none"};
+    panel p = {0};
+    size_t kept = 0;
+    int cut = 0;
+    ssize_t got;
+    fresh(&p);
+    while (!cut && (got = read(0, block + kept, 65536)) > 0) {
+        size_t n = kept + got, used = consume(&p, block, n, &cut);
+        kept = n - used;
+        memmove(block, block + used, kept);
+    }
+    printf("records %llu\n", (unsigned long long)p.records);
+    for (int i = 0; i < 8; i++) printf("%s %llu\n", names[i], (unsigned long long)p.counts[i]);
+    printf("cut %d\n%s %02X\ncodes", cut || kept, p.in_pattern ? "pattern" : "address", p.address);
+    for (int i = 0; i < 16; i++) printf(" %02X", p.display[i]);
+    printf("\n");
+}

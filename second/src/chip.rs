@@ -1,0 +1,165 @@
+//! The sheet's machine: two memories, the address, the shift and the
+//! settings. It has no clock and knows no half transfers.
+
+/// A place in display memory, 0 to 15.
+#[derive(Clone, Copy, Debug, PartialEq)]
+pub struct DisplayAddress(pub u8);
+
+/// A place in pattern memory, 0 to 31.
+#[derive(Clone, Copy, Debug, PartialEq)]
+pub struct PatternAddress(pub u8);
+
+/// The address counter points into one of the two memories.
+#[derive(Clone, Copy, Debug, PartialEq)]
+pub enum Counter {
+    Display(DisplayAddress),
+    Pattern(PatternAddress),
+}
+
+impl Counter {
+    /// The bare number, for the status byte and the prints.
+    pub fn number(self) -> u8 {
+        match self {
+            Counter::Display(DisplayAddress(number)) => number,
+            Counter::Pattern(PatternAddress(number)) => number,
+        }
+    }
+
+    fn moved(self, up: bool) -> Counter {
+        match self {
+            Counter::Display(DisplayAddress(at)) => {
+                Counter::Display(DisplayAddress(around(at, up, 16)))
+            }
+            Counter::Pattern(PatternAddress(at)) => {
+                Counter::Pattern(PatternAddress(around(at, up, 32)))
+            }
+        }
+    }
+}
+
+/// One step along a ring of `size` places.
+fn around(at: u8, up: bool, size: u8) -> u8 {
+    let step = if up { 1 } else { size - 1 };
+    (at + step) % size
+}
+
+#[derive(Clone, Copy, Debug, PartialEq)]
+pub enum Width {
+    Eight,
+    Four,
+}
+
+/// Everything that the sheet describes.
+#[derive(Clone, Debug, PartialEq)]
+pub struct Sheet {
+    pub display: [u8; 16],
+    pub pattern: [u8; 32],
+    pub counter: Counter,
+    pub shift: u8,
+    /// Entry bit I/D: true means up.
+    pub i_d: bool,
+    /// Entry bit S: display-memory writes also shift.
+    pub s: bool,
+    /// Display bits D (on), C (cursor) and B (blink).
+    pub d: bool,
+    pub c: bool,
+    pub b: bool,
+    pub width: Width,
+    /// The low four Function Set bits, kept as written.
+    pub function: u8,
+}
+
+/// Something that the machine carries out, always whole.
+#[derive(Clone, Copy, Debug, PartialEq)]
+pub enum Entry {
+    Reset,
+    Instruction(u8),
+    Write(u8),
+    Read,
+}
+
+impl Sheet {
+    pub fn fresh() -> Sheet {
+        Sheet {
+            display: [0x20; 16],
+            pattern: [0; 32],
+            counter: Counter::Display(DisplayAddress(0)),
+            shift: 0,
+            i_d: true,
+            s: false,
+            d: false,
+            c: false,
+            b: false,
+            width: Width::Eight,
+            function: 0,
+        }
+    }
+
+    pub fn carry_out(&mut self, entry: Entry) {
+        match entry {
+            Entry::Reset => *self = Sheet::fresh(),
+            Entry::Instruction(code) => self.instruct(code),
+            Entry::Write(byte) => self.write(byte),
+            // A read never shifts the display, whatever S is.
+            Entry::Read => self.counter = self.counter.moved(self.i_d),
+        }
+    }
+
+    /// The byte that a data read gives.
+    pub fn byte_at_address(&self) -> u8 {
+        match self.counter {
+            Counter::Display(DisplayAddress(at)) => self.display[usize::from(at)],
+            Counter::Pattern(PatternAddress(at)) => self.pattern[usize::from(at)],
+        }
+    }
+
+    fn instruct(&mut self, code: u8) {
+        let bit = |n: u8| code >> n & 1 != 0;
+        match code {
+            0x00 => {}
+            0x01 => self.clear(),
+            0x02..=0x03 => self.home(),
+            0x04..=0x07 => (self.i_d, self.s) = (bit(1), bit(0)),
+            0x08..=0x0F => (self.d, self.c, self.b) = (bit(2), bit(1), bit(0)),
+            0x10..=0x17 => self.counter = self.counter.moved(bit(2)),
+            0x18..=0x1F => self.shift_display(!bit(2)),
+            0x20..=0x3F => {
+                self.width = if bit(4) { Width::Eight } else { Width::Four };
+                self.function = code & 0x0F;
+            }
+            0x40..=0x7F => self.counter = Counter::Pattern(PatternAddress(code & 0x1F)),
+            0x80..=0xFF => self.counter = Counter::Display(DisplayAddress(code & 0x0F)),
+        }
+    }
+
+    /// S stays as it is; only I/D is set.
+    fn clear(&mut self) {
+        self.display = [0x20; 16];
+        self.home();
+        self.i_d = true;
+    }
+
+    fn home(&mut self) {
+        self.counter = Counter::Display(DisplayAddress(0));
+        self.shift = 0;
+    }
+
+    fn shift_display(&mut self, left: bool) {
+        self.shift = around(self.shift, left, 16);
+    }
+
+    fn write(&mut self, byte: u8) {
+        match self.counter {
+            Counter::Display(DisplayAddress(at)) => {
+                self.display[usize::from(at)] = byte;
+                if self.s {
+                    self.shift_display(self.i_d);
+                }
+            }
+            Counter::Pattern(PatternAddress(at)) => {
+                self.pattern[usize::from(at)] = byte & 0x1F;
+            }
+        }
+        self.counter = self.counter.moved(self.i_d);
+    }
+}

@@ -1,0 +1,145 @@
+//! Demand 3: replay of the taken entries on the sheet's machine, and
+//! striking of the records that did nothing. Both work from the log and its
+//! answers alone, and know nothing of how the panel keeps halves.
+
+use crate::chip::{Entry, Sheet, Width};
+use crate::log::{self, Message};
+use crate::panel::number::*;
+use crate::panel::{self, Answer, Panel, Run, Times};
+
+/// Carries out the entries answered "taken", a pair of halves as one.
+pub fn replay(log: &[u8], answers: &[Answer]) -> Sheet {
+    let mut sheet = Sheet::fresh();
+    let mut high = 0;
+    for (record, answer) in log::records(log).0.into_iter().zip(answers) {
+        let Some(message) = log::message(record) else { continue };
+        match (answer.number, message) {
+            (HELD, Message::Transfer(first)) => high = first.data & 0xF0,
+            (TAKEN, Message::Reset { .. }) => sheet.carry_out(Entry::Reset),
+            (TAKEN, Message::Transfer(taken)) => {
+                let byte = match sheet.width {
+                    Width::Eight => taken.data,
+                    Width::Four => high | taken.data >> 4,
+                };
+                sheet.carry_out(entry(taken.rs, taken.rw, byte));
+            }
+            _ => {}
+        }
+    }
+    sheet
+}
+
+fn entry(rs: bool, rw: bool, byte: u8) -> Entry {
+    match (rs, rw) {
+        (false, _) => Entry::Instruction(byte),
+        (true, false) => Entry::Write(byte),
+        (true, true) => Entry::Read,
+    }
+}
+
+/// For each record, whether it stays when the log is struck.
+///
+/// A first half goes with its second. It is the latest record before the
+/// second half that is neither back nor bad, for those leave a half waiting.
+/// A half that a reset drops, or that is last in the log, is no half of a
+/// struck pair and stays.
+pub fn stays(answers: &[Answer]) -> Vec<bool> {
+    let mut keep = vec![true; answers.len()];
+    let mut held = None;
+    for (at, answer) in answers.iter().enumerate() {
+        keep[at] = matches!(answer.number, TAKEN | HELD);
+        match answer.number {
+            BACK | BAD => {}
+            HELD => held = Some(at),
+            TAKEN | IGNORED => held = None,
+            _ => {
+                if let Some(first) = held.take() {
+                    keep[first] = false;
+                }
+            }
+        }
+    }
+    keep
+}
+
+/// The log that is left after striking; the unreadable tail is no part of it.
+pub fn strike(log: &[u8], answers: &[Answer]) -> Vec<u8> {
+    let mut left = Vec::new();
+    for (record, stays) in log::records(log).0.into_iter().zip(stays(answers)) {
+        if stays {
+            left.extend(record);
+        }
+    }
+    left
+}
+
+/// Checks demand 3 and the sum of the counts from a fresh panel.
+pub fn check(times: Times, log: &[u8]) -> Result<(), &'static str> {
+    let mut panel = Panel::fresh(times);
+    let run = panel::run(&mut panel, log);
+    if run.counts.iter().sum::<u64>() != run.records {
+        return Err("the eight counts do not add up to the records");
+    }
+    if replay(log, &run.answers) != panel.sheet {
+        return Err("the replay ends with another sheet");
+    }
+    check_striking(times, log, &panel, &run)
+}
+
+fn check_striking(times: Times, log: &[u8], panel: &Panel, run: &Run) -> Result<(), &'static str> {
+    let struck = strike(log, &run.answers);
+    let mut again = Panel::fresh(times);
+    let rerun = panel::run(&mut again, &struck);
+    let kept: Vec<Answer> = run
+        .answers
+        .iter()
+        .zip(stays(&run.answers))
+        .filter_map(|(&answer, stays)| stays.then_some(answer))
+        .collect();
+    if rerun.answers != kept || rerun.cut {
+        return Err("a record that stays is answered otherwise after striking");
+    }
+    // The clock and the waiting half may differ; nothing else does.
+    again.last = panel.last;
+    again.half = panel.half;
+    if again != *panel {
+        return Err("the panel after striking is another");
+    }
+    if strike(&struck, &rerun.answers) != struck {
+        return Err("striking twice is not striking once");
+    }
+    Ok(())
+}
+
+#[cfg(test)]
+mod tests {
+    use super::*;
+
+    fn kept(numbers: &[u8]) -> Vec<usize> {
+        let answers: Vec<Answer> = numbers.iter().map(|&number| Answer { number, byte: 0 }).collect();
+        let stays = stays(&answers);
+        (0..numbers.len()).filter(|&at| stays[at]).collect()
+    }
+
+    #[test]
+    fn first_halves_go_with_their_seconds() {
+        assert_eq!(kept(&[TAKEN, HELD, TAKEN]), [0, 1, 2]);
+        assert_eq!(kept(&[TAKEN, HELD, BAD, BACK, TORN]), [0]);
+        assert_eq!(kept(&[TAKEN, HELD, STATUS, HELD, NONE]), [0]);
+        assert_eq!(kept(&[TAKEN, IGNORED, IGNORED, IGNORED, TORN]), [0]);
+    }
+
+    #[test]
+    fn a_lone_half_stays() {
+        // Dropped by a reset (taken), and last in the log.
+        assert_eq!(kept(&[TAKEN, HELD, TAKEN, STATUS, HELD]), [0, 1, 2, 4]);
+    }
+
+    #[test]
+    fn demand_three_on_generated_logs() {
+        for turn in 0..200 {
+            let log = crate::generator::trial(7, turn).log;
+            assert_eq!(check(Times::USUAL, &log), Ok(()), "turn {turn}");
+        }
+    }
+}

@@ -1,0 +1,132 @@
+//! Trials: a log and what the run over it is lent, made anew from a seed and
+//! a turn. Some logs are damaged after they are sent.
+
+use crate::lend::{self, Group, Word};
+use crate::log;
+use crate::panel::{Panel, Times};
+use crate::random::Random;
+use crate::sender;
+use std::fs;
+use std::io;
+use std::path::Path;
+
+/// One thing to run the model and the program on.
+#[derive(Clone, Debug)]
+pub struct Trial {
+    pub groups: Vec<Group>,
+    pub log: Vec<u8>,
+}
+
+impl Trial {
+    pub fn of_log(log: Vec<u8>) -> Trial {
+        Trial { groups: Vec::new(), log }
+    }
+
+    /// Whether a group of this name is among the words.
+    pub fn gives(&self, name: &str) -> bool {
+        self.groups.iter().any(|group| group[0] == Word::Text(name.to_string()))
+    }
+
+    /// Writes the lent files into the directory and gives the command line.
+    pub fn words(&self, directory: &Path) -> io::Result<Vec<String>> {
+        let mut words = Vec::new();
+        for word in self.groups.iter().flatten() {
+            let path = directory.join(format!("lent{}", words.len()));
+            words.push(match word {
+                Word::Text(text) => text.clone(),
+                Word::Missing => directory.join("missing").display().to_string(),
+                Word::File(bytes) => {
+                    // Some disks are waited for when a file is written over.
+                    let _ = fs::remove_file(&path);
+                    fs::write(&path, bytes)?;
+                    path.display().to_string()
+                }
+            });
+        }
+        Ok(words)
+    }
+}
+
+pub fn trial(seed: u64, turn: u64) -> Trial {
+    let mut random = Random::new(seed, turn);
+    let lending = lend::lend(&mut random, turn);
+    let (panel, target) = match lending.start {
+        Some(panel) => (panel, length(&mut random)),
+        None => (Panel::fresh(Times::USUAL), random.below(30) as usize),
+    };
+    let mut log = sender::send_log(&mut random, panel, target);
+    if turn % 5 == 3 {
+        damage(&mut random, &mut log, turn / 5 % 25);
+    }
+    Trial { groups: lending.groups, log }
+}
+
+/// How many records a log is to have; a few logs are long.
+fn length(random: &mut Random) -> usize {
+    let (least, most) = match random.below(100) {
+        0..=49 => (20, 130),
+        50..=84 => (130, 250),
+        85..=97 => (250, 500),
+        _ => (1_000, 2_500),
+    };
+    least + random.below((most - least) as u64) as usize
+}
+
+/// A log of a few records at width 4, for runs that cost one start for each
+/// byte.
+pub fn short_log(seed: u64, turn: u64) -> Vec<u8> {
+    let mut random = Random::new(seed, turn);
+    let first = log::write_transfer(0, 0, 0x20);
+    let mut panel = Panel::fresh(Times::USUAL);
+    panel.answer(&first);
+    let rest = sender::send_log(&mut random, panel, 6);
+    let few = log::records(&rest).0.into_iter().take(6);
+    first.into_iter().chain(few.flatten().copied()).collect()
+}
+
+/// A log far longer than any buffer that a program may keep.
+pub fn long_log(seed: u64) -> Vec<u8> {
+    let mut random = Random::new(seed, u64::MAX);
+    sender::send_log(&mut random, Panel::fresh(Times::USUAL), 20_000)
+}
+
+fn damage(random: &mut Random, log: &mut Vec<u8>, way: u64) {
+    let size = log.len() as u64;
+    // Late in the log, for most damage ends the reading.
+    let late = (size - random.below(size.clamp(1, 200))) as usize;
+    match way {
+        0..=9 => log.extend(cut_tail(random, way)),
+        10..=13 => log.truncate(late),
+        14..=17 if late < log.len() => log[late] ^= 1 << random.below(8),
+        18 | 19 if late < log.len() => drop(log.remove(late)),
+        20 => log.insert(late, random.byte()),
+        21 => *log = Vec::new(),
+        22 | 23 => *log = random.bytes(late % 200),
+        24 => log.reverse(),
+        _ => {}
+    }
+}
+
+/// Every sort of cut, each at the end of a log.
+fn cut_tail(random: &mut Random, way: u64) -> Vec<u8> {
+    let mut tail = match way {
+        0 => return vec![random.byte()],
+        1 => vec![0, 0],
+        2 => vec![1, 0],
+        3 => vec![65, 0],
+        4 => vec![0xFF, 0xFF],
+        5 => vec![0x0C, 0x01],
+        6 => return vec![12, 0],
+        7 => return vec![64, 0].into_iter().chain(random.bytes(63)).collect(),
+        8 => return vec![12, 0, 1, 0].into_iter().chain(random.bytes(9)).collect(),
+        _ => return vec![10, 0, 2, 0].into_iter().chain(random.bytes(3)).collect(),
+    };
+    // Enough bytes follow, mostly, so that only the length is at fault.
+    let enough = match way {
+        4 => random.pick(&[400, 66_000, 66_000]),
+        5 => 400,
+        _ => 70,
+    };
+    tail.extend(random.bytes(enough));
+    tail
+}

@@ -1,0 +1,480 @@
+//! Watches the model run and notes which classes of the reach it meets.
+
+use crate::arguments::Lent;
+use crate::chip::{Counter, DisplayAddress, PatternAddress, Sheet, Width};
+use crate::generator::Trial;
+use crate::log::{self, Message, Transfer, TIME_LIMIT};
+use crate::panel::number::*;
+use crate::panel::{self, is_status, Answer, Half, Panel, BUSY_END_LIMIT};
+use crate::picture::{self, Comparison, FONT_SIZE, FRAME_SIZE};
+use crate::reach::Reach;
+
+/// One record with the panel on either side of it.
+struct Step<'a> {
+    before: &'a Panel,
+    record: &'a [u8],
+    answer: Answer,
+    after: &'a Panel,
+}
+
+/// What an observer remembers from one record to the next.
+#[derive(Default)]
+struct Memory {
+    /// Data byte, time and freedom of the first half that waits.
+    first: Option<(u8, u64, bool)>,
+    /// The answer to the latest record that was neither back nor bad.
+    latest: Option<u8>,
+    /// Until when an ignored transfer would wait, had it been taken.
+    wrong_wait: u64,
+}
+
+/// Notes what one trial reaches; `lent` is the refusal where there is one.
+pub fn trial(reach: &mut Reach, trial: &Trial, lent: Result<&Lent, &str>) {
+    let log = &trial.log;
+    let lent = match lent {
+        Ok(lent) => lent,
+        Err(reason) => return reach.note(&format!("refused: {reason}")),
+    };
+    let faults = panel::faults(&lent.panel);
+    sizes_and_times(reach, lent);
+    frames(reach, lent);
+    if trial.gives("panel") {
+        reach.note_if(trial.gives("times"), "panel and times");
+        panel_at_its_limits(reach, &lent.panel);
+    }
+    for fault in &faults {
+        reach.note(&format!("unsound: {fault}"));
+    }
+    reach.note_if(faults.len() > 1, "unsound in two ways");
+    if !faults.is_empty() {
+        refusals(reach, lent, log);
+        return;
+    }
+    let panel = run(reach, &lent.panel, log);
+    painting(reach, lent, &panel);
+}
+
+fn refusals(reach: &mut Reach, lent: &Lent, log: &[u8]) {
+    for class in ["answer 10", "10 for a run", "10 for a painting"] {
+        reach.note(class);
+    }
+    reach.note_if(lent.font.len() != FONT_SIZE, "10 before 9 for the font");
+    reach.note_if(lent.frame_size != FRAME_SIZE, "10 before 9 for the frame");
+    reach.note_if(log::records(log).1, "10 with a cut log");
+}
+
+fn run(reach: &mut Reach, start: &Panel, log: &[u8]) -> Panel {
+    let (records, cut) = log::records(log);
+    let mut memory = Memory::default();
+    let mut panel = start.clone();
+    for record in &records {
+        let before = panel.clone();
+        let answer = panel.answer(record);
+        let step = Step { before: &before, record, answer, after: &panel };
+        reach.note(&format!("answer {}", answer.number));
+        match log::message(record) {
+            None => bad(reach, &step),
+            Some(message) => usable(reach, &step, &mut memory, message),
+        }
+        if !matches!(answer.number, BACK | BAD) {
+            memory.latest = Some(answer.number);
+        }
+    }
+    let read: usize = records.iter().map(|record| record.len()).sum();
+    end(reach, &log[read..], cut, read == 0);
+    waiting_at_end(reach, &panel);
+    panel
+}
+
+fn bad(reach: &mut Reach, step: &Step) {
+    let record = step.record;
+    let kind = u16::from_le_bytes([record[2], record[3]]);
+    let waits = step.before.half.is_some();
+    let time = record.get(4..12).map(|bytes| u64::from_le_bytes(bytes.try_into().expect("8 bytes")));
+    reach.note_if(waits, "bad between halves");
+    reach.note_if(record.len() == 4, "bad of length 2");
+    reach.note_if(record.len() == 66, "bad of length 64");
+    match (kind, record.len()) {
+        (1, 14) if record[12] > 3 => {
+            reach.note("bad control");
+            reach.note_if(time < Some(step.before.last), "bad and back");
+        }
+        (1, 14) => reach.note("bad time of a transfer"),
+        (2, 12) => reach.note("bad time of a reset"),
+        (1, _) => reach.note("bad length of a transfer"),
+        (2, _) => reach.note("bad length of a reset"),
+        _ => {
+            reach.note("bad kind");
+            reach.note_if(matches!(kind & 0xFF, 1 | 2), "bad kind with a usable low byte");
+        }
+    }
+    if matches!((kind, record.len()), (1, 14) | (2, 12)) {
+        reach.note_if(time == Some(TIME_LIMIT), "time 2^48 refused");
+        reach.note_if(time > Some(TIME_LIMIT), "time above 2^48 refused");
+    }
+}
+
+fn usable(reach: &mut Reach, step: &Step, memory: &mut Memory, message: Message) {
+    let Step { before, answer, after, .. } = *step;
+    if answer.number == BACK {
+        return back(reach, before, message);
+    }
+    reach.note_if(message.time() == TIME_LIMIT - 1, "time 2^48 - 1 used");
+    reach.note_if(after.busy_end >= TIME_LIMIT, "busy end of 2^48 or more");
+    reach.note_if(message.time() == before.last, "at the last time");
+    match message {
+        Message::Reset { time } => {
+            reset(reach, before, time);
+            memory.first = None;
+        }
+        Message::Transfer(transfer) => {
+            clock(reach, before, transfer, memory, answer.number);
+            carried(reach, step, memory, transfer);
+        }
+    }
+}
+
+fn back(reach: &mut Reach, before: &Panel, message: Message) {
+    let is_reset = matches!(message, Message::Reset { .. });
+    let waits = before.half.is_some();
+    reach.note_if(message.time() + 1 == before.last, "one back");
+    reach.note_if(message.time() == 0, "back to 0");
+    reach.note_if(is_reset, "reset back");
+    reach.note_if(waits, "back between halves");
+    reach.note_if(is_reset && waits, "back reset between halves");
+}
+
+fn reset(reach: &mut Reach, before: &Panel, time: u64) {
+    let state = if before.is_free(time) { "reset while free" } else { "reset while busy" };
+    reach.note(state);
+    reach.note_if(before.sheet.width == Width::Four, "reset at width 4");
+    reach.note_if(before.sheet.pattern != [0; 32], "reset of a written pattern memory");
+    match before.half {
+        None => {}
+        Some(Half { nibble: None, .. }) => reach.note("reset with an ignored half"),
+        Some(Half { rs: false, rw: true, .. }) => reach.note("reset with a status half"),
+        Some(_) => reach.note("reset with a half held"),
+    }
+}
+
+/// Where the beginning of a transfer lies next to the busy end.
+fn clock(reach: &mut Reach, before: &Panel, transfer: Transfer, memory: &mut Memory, answer: u8) {
+    let Transfer { time, rs, rw, .. } = transfer;
+    if before.half.is_some() || is_status(rs, rw) {
+        return;
+    }
+    let what = if before.sheet.width == Width::Eight { "whole" } else { "first half" };
+    reach.note_if(time + 1 == before.busy_end, &format!("{what} one before the busy end"));
+    reach.note_if(time == before.busy_end, &format!("{what} at the busy end"));
+    reach.note_if(time == before.busy_end + 1, &format!("{what} one after the busy end"));
+    if answer == IGNORED {
+        memory.wrong_wait = time + u64::from(before.times.short);
+    } else if time < memory.wrong_wait {
+        reach.note("taken within the wait of an ignored transfer");
+    }
+}
+
+/// Joins halves and notes what was carried out, ignored or read.
+fn carried(reach: &mut Reach, step: &Step, memory: &mut Memory, transfer: Transfer) {
+    let Step { before, answer, .. } = *step;
+    let free = before.is_free(transfer.time);
+    if before.sheet.width == Width::Eight {
+        note_transfer(reach, &before.sheet, transfer, free);
+        return steps(reach, step, transfer);
+    }
+    if before.half.is_none() {
+        memory.first = Some((transfer.data, transfer.time, free));
+        return first_half(reach, memory, transfer, answer);
+    }
+    second_half(reach, step, memory, transfer);
+    if let (Some((high, first_time, free)), true) = (memory.first.take(), answer.number != TORN) {
+        let whole = Transfer { data: high & 0xF0 | transfer.data >> 4, ..transfer };
+        note_transfer(reach, &before.sheet, whole, free);
+        steps(reach, step, whole);
+        reach.note_if(transfer.time == first_time, "second half at the first's time");
+        reach.note_if(answer.number == NONE, "00h as two halves");
+        let to_eight = step.after.sheet.width == Width::Eight;
+        reach.note_if(to_eight, "width 8 by two halves");
+    }
+}
+
+fn note_transfer(reach: &mut Reach, sheet: &Sheet, transfer: Transfer, free: bool) {
+    let wide = sheet.width == Width::Eight;
+    let name = transfer_name(sheet, transfer);
+    let width = if wide { 8 } else { 4 };
+    let state = if free { "free" } else { "busy" };
+    reach.note(&format!("{name}, width {width}, {state}"));
+    if !transfer.rs && !transfer.rw {
+        reach.note_code(wide, free, transfer.data);
+    }
+}
+
+fn transfer_name(sheet: &Sheet, transfer: Transfer) -> &'static str {
+    let in_display = matches!(sheet.counter, Counter::Display(_));
+    match (transfer.rs, transfer.rw, in_display) {
+        (false, true, _) => "status read",
+        (true, false, true) => "display write",
+        (true, false, false) => "pattern write",
+        (true, true, true) => "display read",
+        (true, true, false) => "pattern read",
+        (false, false, _) => instruction_name(transfer.data),
+    }
+}
+
+fn instruction_name(code: u8) -> &'static str {
+    match code {
+        0x00 => "none 00h",
+        0x01 => "Clear",
+        0x02 => "Home 02h",
+        0x03 => "Home 03h",
+        0x04..=0x07 => "entry bits",
+        0x08..=0x0F => "display bits",
+        0x10..=0x13 => "move down",
+        0x14..=0x17 => "move up",
+        0x18..=0x1B => "shift left",
+        0x1C..=0x1F => "shift right",
+        0x20..=0x2F => "to width 4",
+        0x30..=0x3F => "to width 8",
+        0x40..=0x7F => "pattern address",
+        0x80..=0xFF => "display address",
+    }
+}
+
+fn first_half(reach: &mut Reach, memory: &Memory, transfer: Transfer, answer: Answer) {
+    if answer.number == HELD {
+        reach.note(match (transfer.rs, transfer.rw) {
+            (false, false) => "held instruction",
+            (true, false) => "held data write",
+            (true, true) => "held data read",
+            (false, true) => "held status",
+        });
+        reach.note_if(memory.latest == Some(IGNORED), "pair begun after an ignored pair");
+        reach.note_if(memory.latest == Some(TORN), "pair begun after a torn pair");
+    }
+}
+
+fn second_half(reach: &mut Reach, step: &Step, memory: &Memory, transfer: Transfer) {
+    let Step { before, answer, .. } = *step;
+    let Some(Half { rs, rw, nibble }) = before.half else { return };
+    let ignored = nibble.is_none();
+    let what = if ignored { "ignored" } else { "held" };
+    match (rs != transfer.rs, rw != transfer.rw) {
+        (true, true) => reach.note(&format!("{what} half torn by both")),
+        (true, false) => reach.note(&format!("{what} half torn by RS")),
+        (false, true) => reach.note(&format!("{what} half torn by R/W")),
+        (false, false) => {}
+    }
+    let Some((_, _, began_free)) = memory.first else {
+        return handed_in(reach, before, answer.number);
+    };
+    let free = before.is_free(transfer.time);
+    reach.note_if(ignored && free && answer.number == IGNORED, "ignored pair whose second half is free");
+    if answer.number == STATUS {
+        reach.note_if(began_free, "status half begun free");
+        reach.note_if(!began_free && free, "status half begun busy, ended free");
+    }
+}
+
+/// The half came with the panel file, not from this log.
+fn handed_in(reach: &mut Reach, before: &Panel, answer: u8) {
+    match answer {
+        TAKEN | NONE => reach.note("taken half handed in"),
+        STATUS => reach.note("status half handed in"),
+        IGNORED => reach.note("ignored half handed in"),
+        _ => reach.note("torn half handed in"),
+    }
+    if let (TAKEN, Some(Half { rs: true, rw: true, nibble })) = (answer, before.half) {
+        let other = nibble != Some(before.sheet.byte_at_address() & 0x0F);
+        reach.note_if(other, "data read of a half not at the address");
+    }
+}
+
+/// Wraps, and the steps that a slip would get wrong.
+fn steps(reach: &mut Reach, step: &Step, transfer: Transfer) {
+    if step.answer.number != TAKEN {
+        return;
+    }
+    let (old, new) = (&step.before.sheet, &step.after.sheet);
+    let name = transfer_name(old, transfer);
+    wraps(reach, old, new, name);
+    shifts(reach, old, new, name);
+    let in_pattern = matches!(old.counter, Counter::Pattern(_));
+    let (code, data) = (transfer.data, transfer.data);
+    match name {
+        "display write" if old.s && old.i_d => reach.note("display write with S, up"),
+        "display write" if old.s => reach.note("display write with S, down"),
+        "pattern write" => {
+            reach.note_if(old.s, "pattern write with S");
+            reach.note_if(data > 0x1F, "pattern write above 1Fh");
+        }
+        "display read" => reach.note_if(old.s, "display read with S"),
+        "pattern read" => reach.note_if(old.s, "pattern read with S"),
+        "Clear" => {
+            reach.note_if(old.s, "Clear with S");
+            reach.note_if(!old.i_d, "Clear with I/D down");
+            reach.note_if(in_pattern, "Clear in pattern memory");
+        }
+        "Home 02h" | "Home 03h" => {
+            reach.note_if(in_pattern, "Home in pattern memory");
+            reach.note_if(old.shift != 0, "Home with a shift");
+        }
+        "display address" => reach.note_if(code > 0x8F, "display address above 8Fh"),
+        "pattern address" => reach.note_if(code > 0x5F, "pattern address above 5Fh"),
+        _ => {}
+    }
+}
+
+fn wraps(reach: &mut Reach, old: &Sheet, new: &Sheet, name: &str) {
+    let how = match name {
+        "display write" | "pattern write" => "write",
+        "display read" | "pattern read" => "read",
+        "move up" | "move down" => "move",
+        _ => return,
+    };
+    let memory = match old.counter {
+        Counter::Display(_) => "display",
+        Counter::Pattern(_) => "pattern",
+    };
+    let (from, to) = (old.counter.number(), new.counter.number());
+    if from.abs_diff(to) != 1 {
+        reach.note(&format!("{memory} {how} {from} to {to}"));
+    }
+}
+
+fn shifts(reach: &mut Reach, old: &Sheet, new: &Sheet, name: &str) {
+    let how = match name {
+        "shift left" | "shift right" => "instruction",
+        "display write" => "write",
+        _ => return,
+    };
+    if old.shift.abs_diff(new.shift) == 15 {
+        reach.note(&format!("shift {} to {} by {how}", old.shift, new.shift));
+    }
+}
+
+/// What the reading stopped at.
+fn end(reach: &mut Reach, tail: &[u8], cut: bool, no_record: bool) {
+    reach.note_if(no_record && !cut, "empty log");
+    if !cut {
+        return;
+    }
+    reach.note("answer 8");
+    reach.note_if(no_record, "cut before any record");
+    let [low, high, rest @ ..] = tail else {
+        return reach.note("cut: one byte left");
+    };
+    let length = usize::from(u16::from_le_bytes([*low, *high]));
+    match length {
+        0 => reach.note("cut: length 0"),
+        1 => reach.note("cut: length 1"),
+        65 => reach.note("cut: length 65"),
+        65_535 if rest.len() < length => reach.note("cut: length 65535"),
+        65_535 => reach.note("cut: length 65535, as many bytes"),
+        66.. => reach.note("cut: length above 65"),
+        _ if rest.is_empty() => reach.note("cut: nothing after the length"),
+        _ if rest.len() + 1 == length => reach.note("cut: one byte short"),
+        _ => reach.note("cut: several bytes short"),
+    }
+}
+
+fn waiting_at_end(reach: &mut Reach, panel: &Panel) {
+    match panel.half {
+        None => {}
+        Some(Half { nibble: None, .. }) => reach.note("ends with an ignored half"),
+        Some(Half { rs, rw, .. }) => reach.note(match (rs, rw) {
+            (false, false) => "ends with an instruction half",
+            (true, false) => "ends with a data write half",
+            (true, true) => "ends with a data read half",
+            (false, true) => "ends with a status half",
+        }),
+    }
+}
+
+fn painting(reach: &mut Reach, lent: &Lent, panel: &Panel) {
+    let sheet = &panel.sheet;
+    reach.note_if(lent.frame_size != FRAME_SIZE, "9 for the frame");
+    reach.note_if(lent.font.len() != FONT_SIZE, "9 for the font");
+    if lent.frame_size != FRAME_SIZE || lent.font.len() != FONT_SIZE {
+        return reach.note("answer 9");
+    }
+    if !sheet.d {
+        return reach.note("painted with D off");
+    }
+    reach.note("painted with D on");
+    reach.note_if(lent.font != picture::trial_font(), "lent font painted");
+    reach.note_if(sheet.c && sheet.shift != 0, "cursor at a shift");
+    reach.note_if(sheet.b && sheet.shift != 0, "blink at a shift");
+    if let (true, Counter::Pattern(PatternAddress(at))) = (sheet.c, sheet.counter) {
+        reach.note("cursor in pattern memory");
+        reach.note_if(at > 15, "cursor above 15 in pattern memory");
+    }
+    for code in sheet.display {
+        match code {
+            0x00..=0x03 => reach.note("pattern code 00h to 03h"),
+            0x04..=0x0F => reach.note("pattern code 04h to 0Fh"),
+            0x10 => reach.note("font code 10h"),
+            0xFF => reach.note("font code FFh"),
+            _ => {}
+        }
+    }
+    let [mut light, mut dark] = [[0; FRAME_SIZE]; 2];
+    picture::paint(panel, &lent.font, false, &mut light);
+    picture::paint(panel, &lent.font, true, &mut dark);
+    reach.note(if light == dark { "comparison: painted frames same" } else { "dark and light differ" });
+}
+
+fn sizes_and_times(reach: &mut Reach, lent: &Lent) {
+    match lent.font.len() {
+        0 => reach.note("font of 0"),
+        1_919 => reach.note("font of 1919"),
+        1_921 => reach.note("font of 1921"),
+        _ => {}
+    }
+    match lent.frame_size {
+        0 => reach.note("frame of 0"),
+        79 => reach.note("frame of 79"),
+        81 => reach.note("frame of 81"),
+        200 => reach.note("frame of 200"),
+        _ => {}
+    }
+    let times = [lent.panel.times.reset, lent.panel.times.long, lent.panel.times.short];
+    reach.note_if(times.contains(&0), "time of 0");
+    reach.note_if(times.contains(&65_535), "time of 65535");
+}
+
+fn panel_at_its_limits(reach: &mut Reach, panel: &Panel) {
+    if !panel.is_sound() {
+        return;
+    }
+    let sheet = &panel.sheet;
+    reach.note("panel sound");
+    reach.note_if(panel.last == TIME_LIMIT - 1, "panel sound: last time 2^48 - 1");
+    reach.note_if(panel.busy_end == BUSY_END_LIMIT - 1, "panel sound: busy end 2^48 + 65535");
+    match sheet.counter {
+        Counter::Display(DisplayAddress(15)) => reach.note("panel sound: display address 15"),
+        Counter::Pattern(PatternAddress(31)) => reach.note("panel sound: pattern address 31"),
+        _ => {}
+    }
+    reach.note_if(sheet.shift == 15, "panel sound: shift 15");
+    reach.note_if(sheet.function == 15, "panel sound: Function Set bits 15");
+    reach.note_if(sheet.pattern.contains(&31), "panel sound: pattern entry 31");
+}
+
+fn frames(reach: &mut Reach, lent: &Lent) {
+    let Some((one, other)) = &lent.frames else { return };
+    let differing: u32 = one.iter().zip(other).map(|(a, b)| (a ^ b).count_ones()).sum();
+    match (one.len() == FRAME_SIZE, other.len() == FRAME_SIZE) {
+        (false, false) => reach.note("frames: both of wrong size"),
+        (false, true) => reach.note("frames: first of wrong size"),
+        (true, false) => reach.note("frames: second of wrong size"),
+        (true, true) if differing == 0 => reach.note("frames: none differs"),
+        (true, true) if differing == 1 => reach.note("frames: one dot"),
+        (true, true) => reach.note("frames: several dots"),
+    }
+    match picture::compare(one, other) {
+        Comparison::Refused(_) => reach.note("9 for frames"),
+        Comparison::At { row: 0, column: 0 } => reach.note("frames: first dot of all"),
+        Comparison::At { row: 7, column: 79 } => reach.note("frames: last dot of all"),
+        _ => {}
+    }
+}

@@ -1,0 +1,160 @@
+//! How far the generated trials reach: a list of classes, each of which must
+//! be reached. A class that no trial reaches is a failure.
+
+use std::collections::BTreeMap;
+
+/// The instructions and data transfers, each wanted at both widths, while
+/// free and while busy.
+pub const TRANSFERS: [&str; 19] = [
+    "none 00h", "Clear", "Home 02h", "Home 03h", "entry bits", "display bits", "move down", "move up",
+    "shift left", "shift right", "to width 4", "to width 8", "pattern address", "display address",
+    "display write", "pattern write", "display read", "pattern read", "status read",
+];
+
+const CLOCK: [&str; 15] = [
+    "whole one before the busy end", "whole at the busy end", "whole one after the busy end",
+    "first half one before the busy end", "first half at the busy end", "first half one after the busy end",
+    "at the last time", "one back", "back to 0", "reset back", "time 2^48 - 1 used", "time 2^48 refused",
+    "time above 2^48 refused", "busy end of 2^48 or more", "taken within the wait of an ignored transfer",
+];
+
+const BAD: [&str; 10] = [
+    "bad kind", "bad kind with a usable low byte", "bad length of a transfer", "bad length of a reset",
+    "bad time of a transfer", "bad time of a reset", "bad control", "bad and back", "bad of length 2",
+    "bad of length 64",
+];
+
+const HALVES: [&str; 26] = [
+    "held instruction", "held data write", "held data read", "held status",
+    "held half torn by RS", "held half torn by R/W", "held half torn by both",
+    "ignored half torn by RS", "ignored half torn by R/W", "ignored half torn by both",
+    "ignored pair whose second half is free", "status half begun busy, ended free",
+    "status half begun free", "second half at the first's time", "back between halves",
+    "bad between halves", "back reset between halves", "pair begun after an ignored pair",
+    "pair begun after a torn pair", "taken half handed in", "status half handed in",
+    "ignored half handed in", "torn half handed in", "data read of a half not at the address",
+    "00h as two halves", "width 8 by two halves",
+];
+
+const RESETS: [&str; 7] = [
+    "reset while free", "reset while busy", "reset at width 4", "reset with a half held",
+    "reset with a status half", "reset with an ignored half", "reset of a written pattern memory",
+];
+
+const STEPS: [&str; 29] = [
+    "display write 15 to 0", "display write 0 to 15", "display read 15 to 0", "display read 0 to 15",
+    "display move 15 to 0", "display move 0 to 15", "pattern write 31 to 0", "pattern write 0 to 31",
+    "pattern read 31 to 0", "pattern read 0 to 31", "pattern move 31 to 0", "pattern move 0 to 31",
+    "shift 15 to 0 by instruction", "shift 0 to 15 by instruction", "shift 15 to 0 by write",
+    "shift 0 to 15 by write", "display write with S, up", "display write with S, down",
+    "pattern write with S", "display read with S", "pattern read with S", "Clear with S",
+    "Clear with I/D down", "Clear in pattern memory", "Home in pattern memory", "Home with a shift",
+    "pattern write above 1Fh", "display address above 8Fh", "pattern address above 5Fh",
+];
+
+const ENDS: [&str; 17] = [
+    "empty log", "cut before any record", "cut: one byte left", "cut: length 0", "cut: length 1",
+    "cut: length 65", "cut: length 65535", "cut: length 65535, as many bytes", "cut: length above 65",
+    "cut: nothing after the length", "cut: one byte short", "cut: several bytes short",
+    "ends with an instruction half", "ends with a data write half", "ends with a data read half",
+    "ends with a status half", "ends with an ignored half",
+];
+
+const PICTURES: [&str; 13] = [
+    "painted with D off", "painted with D on", "cursor at a shift", "cursor in pattern memory",
+    "cursor above 15 in pattern memory", "blink at a shift", "dark and light differ",
+    "pattern code 00h to 03h", "pattern code 04h to 0Fh", "font code 10h", "font code FFh",
+    "lent font painted", "comparison: painted frames same",
+];
+
+const LENT: [&str; 35] = [
+    "9 for the font", "9 for the frame", "9 for frames", "10 for a run", "10 for a painting",
+    "10 before 9 for the font", "10 before 9 for the frame", "10 with a cut log", "font of 0",
+    "font of 1919", "font of 1921", "frame of 0", "frame of 79", "frame of 81", "frame of 200",
+    "frames: none differs", "frames: one dot", "frames: several dots", "frames: first dot of all",
+    "frames: last dot of all", "frames: first of wrong size", "frames: second of wrong size",
+    "frames: both of wrong size", "time of 0", "time of 65535", "panel sound",
+    "panel sound: last time 2^48 - 1", "panel sound: busy end 2^48 + 65535",
+    "panel sound: display address 15", "panel sound: pattern address 31", "panel sound: shift 15",
+    "panel sound: Function Set bits 15", "panel sound: pattern entry 31", "panel and times",
+    "unsound in two ways",
+];
+
+const UNSOUND: [&str; 10] = [
+    "display address", "pattern address", "shift", "Function Set bits", "pattern entry",
+    "half's nibble", "status half ignored", "half at width 8", "last time", "busy end",
+];
+
+const REFUSED: [&str; 22] = [
+    "size of the file", "memory of the counter", "I/D", "S", "D", "C", "B", "width", "RS of the half",
+    "R/W of the half", "sort of the half", "RS where none waits", "R/W where none waits",
+    "nibble where none waits", "nibble of an ignored half", "unknown word", "file missing",
+    "file not readable", "frame file too long", "number missing", "not a number", "number too large",
+];
+
+pub struct Reach {
+    classes: BTreeMap<String, u64>,
+    /// Instruction codes seen, by width and by free or busy.
+    codes: [[bool; 256]; 4],
+}
+
+impl Reach {
+    pub fn new() -> Reach {
+        let classes = wanted().into_iter().map(|class| (class, 0)).collect();
+        Reach { classes, codes: [[false; 256]; 4] }
+    }
+
+    /// Every class noted is one of the list, so that a slip of the pen shows.
+    pub fn note(&mut self, class: &str) {
+        *self.classes.get_mut(class).unwrap_or_else(|| panic!("no such class: {class}")) += 1;
+    }
+
+    pub fn note_if(&mut self, reached: bool, class: &str) {
+        if reached {
+            self.note(class);
+        }
+    }
+
+    pub fn note_code(&mut self, wide: bool, free: bool, code: u8) {
+        self.codes[usize::from(wide) * 2 + usize::from(free)][usize::from(code)] = true;
+    }
+
+    pub fn merge(&mut self, other: &Reach) {
+        for (class, count) in &other.classes {
+            *self.classes.get_mut(class).expect("the same list") += count;
+        }
+        for (mine, theirs) in self.codes.iter_mut().flatten().zip(other.codes.iter().flatten()) {
+            *mine |= theirs;
+        }
+    }
+
+    /// All classes with how often each was reached.
+    pub fn table(&self) -> Vec<(String, u64)> {
+        let mut table: Vec<(String, u64)> =
+            wanted().into_iter().map(|class| (class.clone(), self.classes[&class])).collect();
+        for (at, seen) in self.codes.iter().enumerate() {
+            let width = if at & 2 != 0 { 8 } else { 4 };
+            let state = if at & 1 != 0 { "free" } else { "busy" };
+            let all = seen.iter().all(|&seen| seen);
+            table.push((format!("all 256 codes, width {width}, {state}"), u64::from(all)));
+        }
+        table
+    }
+}
+
+fn wanted() -> Vec<String> {
+    let mut all: Vec<String> = (0..=10).map(|number| format!("answer {number}")).collect();
+    for transfer in TRANSFERS {
+        for width in [8, 4] {
+            for state in ["free", "busy"] {
+                all.push(format!("{transfer}, width {width}, {state}"));
+            }
+        }
+    }
+    let lists: [&[&str]; 8] = [&CLOCK, &BAD, &HALVES, &RESETS, &STEPS, &ENDS, &PICTURES, &LENT];
+    all.extend(lists.concat().iter().map(|class| class.to_string()));
+    all.extend(UNSOUND.map(|fault| format!("unsound: {fault}")));
+    all.extend(REFUSED.map(|reason| format!("refused: {reason}")));
+    all.push("refused: group given twice".to_string());
+    all
+}
