@@ -4,3 +4,4 @@ pub mod Way
 pub mod Record
 pub mod Live
 pub mod RecordLaws
+pub mod Table
