@@ -4,4 +4,7 @@ pub mod Way
 pub mod Record
 pub mod Live
 pub mod RecordLaws
+pub mod SoundLaws
 pub mod Table
+pub mod Promise
+pub mod TableLaws

@@ -50,7 +50,7 @@ tears p log = differs (p .half) (rsOf log) (rwOf log)
 
 -- a status read: RS 0, R/W 1
 abbrev pub isStatus : List ℕ → Bool
-isStatus log = not (rsOf log) && rwOf log
+isStatus log = rwOf log && not (rsOf log)
 
 -- ignored: the chip was busy, as decided at the first half for the pair; a status read is never ignored
 abbrev pub busyAt : Half → Bool → Bool
@@ -147,7 +147,7 @@ paper say.Unsound byte = record { number = numberOf say.Unsound; byte = 0 }
 
 -- a row of the table: what a record answered with a number comes to
 pub record Row (n : ℕ) (p : Panel) (log : List ℕ) (r : Recorded) : Type 0 where
-  pub paper : paper (r .answer) (r .byte) ≡ record { number = n; byte = byteFor n p log }
+  pub paper : paper (r .answer) (r .byte) ≡ record { number = n; byte = r .byte }
   pub byte : r .byte ≡ byteFor n p log
   pub panel : r .panel ≡ panelFor n p log
   pub used : r .used ≡ usedFor n log

@@ -1,6 +1,5 @@
 // One record at the front of a slice.
-ghost use mathlib.Core.Path.{_≡_};
-ghost use Rattle.mirror.specs.Record.{recordOf};
+ghost use Rattle.mirror.specs.Promise.{Records};
 use crate::answer::Answer;
 use crate::live::Live;
 use crate::panel::Panel;
@@ -16,7 +15,7 @@ pub struct Recorded {
 
 impl Panel {
     pub fn record(self, log: &[u8]) -> Recorded
-        ensures { λ r. ⌜ r ≡ recordOf self (now (log .entry)) ⌝ }
+        ensures { λ r. ⌜ Records self (now (log .entry)) r ⌝ }
     {
         if !self.sound() {
             return Recorded {
