@@ -8,3 +8,4 @@ pub mod SoundLaws
 pub mod Table
 pub mod Promise
 pub mod TableLaws
+pub mod TableCase

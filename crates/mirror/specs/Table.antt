@@ -128,22 +128,26 @@ panelFor n p log =
 abbrev pub usedFor : ℕ → List ℕ → ℕ
 usedFor n log = pick (eqb n 8 || eqb n 10) 0 (recordSize log)
 
+-- the byte that an answer carries: the byte read for reads answered 0, 1 or 2
+abbrev pub carried : Answer → ℕ → ℕ
+carried say.Taken byte = byte
+carried say.Held byte = byte
+carried say.Status byte = byte
+carried say.Ignored byte = 0
+carried say.Torn byte = 0
+carried say.Back byte = 0
+carried say.Bad byte = 0
+carried say.Nothing byte = 0
+carried say.Cut byte = 0
+carried say.Unsound byte = 0
+
 -- what the paper says of an answer: its number and its bus byte
 pub record Paper : Type 0 where
   pub number : ℕ
   pub byte : ℕ
 
 abbrev pub paper : Answer → ℕ → Paper
-paper say.Taken byte = record { number = numberOf say.Taken; byte = byte }
-paper say.Held byte = record { number = numberOf say.Held; byte = byte }
-paper say.Status byte = record { number = numberOf say.Status; byte = byte }
-paper say.Ignored byte = record { number = numberOf say.Ignored; byte = 0 }
-paper say.Torn byte = record { number = numberOf say.Torn; byte = 0 }
-paper say.Back byte = record { number = numberOf say.Back; byte = 0 }
-paper say.Bad byte = record { number = numberOf say.Bad; byte = 0 }
-paper say.Nothing byte = record { number = numberOf say.Nothing; byte = 0 }
-paper say.Cut byte = record { number = numberOf say.Cut; byte = 0 }
-paper say.Unsound byte = record { number = numberOf say.Unsound; byte = 0 }
+paper answer byte = record { number = numberOf answer; byte = carried answer byte }
 
 -- a row of the table: what a record answered with a number comes to
 pub record Row (n : ℕ) (p : Panel) (log : List ℕ) (r : Recorded) : Type 0 where
