@@ -8,4 +8,6 @@ pub mod SoundLaws
 pub mod Table
 pub mod Promise
 pub mod TableLaws
+pub mod Answers
 pub mod TableCase
+pub mod RecordKeeps
