@@ -11,3 +11,5 @@ pub mod TableLaws
 pub mod Answers
 pub mod TableCase
 pub mod RecordKeeps
+pub mod Busy
+pub mod BusyLaws

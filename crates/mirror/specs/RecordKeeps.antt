@@ -4,7 +4,6 @@ use mathlib.Core.Path.{_≡_, refl, sym, ap, subst, _∙_}
 use mathlib.Core.Bool.{Bool, true, false, not, _&&_, _||_, Bool·beq, false≢true, and-false}
 use mathlib.Core.List.{List, [], _∷_}
 use native.Mathlib.Omega.{arith}
-use lib.Dec.{ltb, leb, eqb}
 use borrow.Author.Tests.{eqb-true}
 use Rattle.laws.specs.Pick.{pick}
 use Rattle.log.specs.Frame.{kindOf, timeOf, rsOf, rwOf, isTransfer, isReset}
@@ -13,16 +12,12 @@ use Rattle.mirror.specs.Panel.{halfFits}
 use Rattle.mirror.specs.Record.{free, holding, done}
 use Rattle.mirror.specs.SoundLaws.{parts}
 use Rattle.mirror.specs.Table.{waits, isFirst, differs, tears, isStatus, busyAt, ignores, sheetFor, spanFor, heldHalf, ignoredHalf, panelFor}
-use Rattle.mirror.specs.Answers.{answerTo, panelAfter, panelAfterAll}
+use Rattle.mirror.specs.Answers.{answerTo, panelAfter, panelAfterAll, clocked, AllUnclocked}
 use Rattle.mirror.specs.TableCase.{Heard, Paired, Acts, Case, answer-case, answer-panel, each-row}
 use Rattle.mirror.specs.TableCase.Case.{unsound, cut, bad, back, reset, torn, ignored, nothing, held, status, taken}
 use Rattle.mirror.specs.declared.half.Half.{Half}
 use Rattle.mirror.specs.declared.half.Half.the-variants.{Empty, Ignored, Waiting}
 use Rattle.mirror.specs.declared.panel.Panel.{Panel}
-
--- answers 0 to 4 and 7, which set the last time
-abbrev pub clocked : ℕ → Bool
-clocked n = leb n 4 || eqb n 7
 
 -- a panel afterwards: as it was; or with another last time and half; or with something carried out
 data After (p : Panel) (log : List ℕ) : ℕ → Panel → Type 0 where
@@ -126,11 +121,7 @@ status-minded p log s z = by (subst (Case p log) z (answer-case p log)) where
   by (ignored h b) =
       bits (p .half) (p .sheet .registers .eight) (rsOf log) (rwOf log) (not (free (timeOf log) p)) s (h .whole) (parts p (h .heard .sound) .half) b
 
--- records that are all answered 5 or 6 (or 8 or 10), as they may stand between two halves
-abbrev pub AllUnclocked : Panel → List (List ℕ) → Type 0
-AllUnclocked p [] = Unit {0}
-AllUnclocked p (f ∷ fs) = (clocked (answerTo p f) ≡ false) × AllUnclocked (panelAfter p f) fs
-
+-- records between two halves that set no time leave the first half waiting
 pub between-keeps : (p : Panel) (fs : List (List ℕ)) → AllUnclocked p fs → panelAfterAll p fs ≡ p
 between-keeps p [] h = refl
 between-keeps p (f ∷ fs) h = between-keeps (panelAfter p f) fs (h .1) ∙ unclocked-keeps p f (h .0)
