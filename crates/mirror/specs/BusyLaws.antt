@@ -11,14 +11,9 @@ use Rattle.laws.specs.Pick.{pick}
 use Rattle.log.specs.Frame.{kindOf, timeOf, dataOf, rsOf, rwOf, isTransfer, isReset}
 use Rattle.log.specs.FrontLaws.{or-left, or-right}
 use Rattle.log.specs.Frames.{frames}
-use Rattle.chip.specs.Address.{display, pattern}
-use Rattle.chip.specs.Instruction.{bit, decoded}
-use Rattle.chip.specs.Step.{acted, obeyed, writtenAt, written, passed}
-use Rattle.chip.specs.StepLaws.{pattern-write-keeps, display-write-keeps}
-use Rattle.chip.specs.declared.address.Address.{Address}
-use Rattle.chip.specs.declared.address.Address.the-variants.{Display, Pattern}
-use Rattle.chip.specs.declared.instruction.Instruction.the-variants as ask
-use Rattle.chip.specs.declared.sheet.Sheet.{Sheet}
+use Rattle.chip.specs.Sheet.{freshSheet}
+use Rattle.chip.specs.Step.{obeyed, written, passed}
+use Rattle.chip.specs.WidthLaws.{obeyed-width, written-width}
 use Rattle.mirror.specs.Panel.{freshPanel, halfFits}
 use Rattle.mirror.specs.Way.{nibbleOf, joinedOf}
 use Rattle.mirror.specs.Record.{free}
@@ -151,3 +146,58 @@ module _ (p : Panel) (log : List ℕ) where
     by n (held c a) = begun eight o h a (c .minded)
     by n (status c a b) = ended eight o 2 refl
     by n (taken c a b) = ended eight o 0 refl
+
+  -- the byte that is joined of the log is the one that the chip joins
+  byte-same : (eight : Bool) (o : Open) {half : Half} → Agrees o half → halfFits eight half ≡ true → (not eight && not (waits half)) ≡ false →
+      busyAt half (not (isStatus log) && not (free (timeOf log) p)) ≡ false → differs half (rsOf log) (rwOf log) ≡ false → rwOf log ≡ false →
+      byteBy o (entry 0) ≡ joinedOf eight half (dataOf log)
+  byte-same true none closed fits f b d w = refl
+  byte-same false none closed fits f b d w = absurd (false≢true (sym f))
+  byte-same eight (first e) (deaf three busy) fits f b d w = absurd (false≢true (sym b))
+  byte-same true (first e) (kept three busy nib) fits f b d w = absurd (false≢true fits)
+  byte-same false (first e) (kept {rs = r} {wr = v} {nibble = n} three busy nib) fits f b d w =
+      let j = equal-bits v (rwOf log) (or-right (not (Bool·beq r (rsOf log))) (not (Bool·beq v (rwOf log))) d) in
+      ap (λ x. x * 16 + dataOf log / 16) (sym (nib (j ∙ w)) ∙ sym (mod-eq-of-lt (ltb-true n 16 fits)))
+
+  -- and so is the width
+  width : (o : Open) → Agrees o (p .half) → widthAfter (p .sheet .registers .eight) o (entryOf p log) ≡ panelAfter p log .sheet .registers .eight
+  width o h = each-row p log (λ n q. widthAfter eight o (entry n) ≡ q .sheet .registers .eight) by where
+    eight : Bool
+    eight = p .sheet .registers .eight
+
+    step : (rs wr : Bool) → (wr && not rs) ≡ false → (wr ≡ false → byteBy o (entry 0) ≡ byteOf p log) →
+        pick (rs || wr) eight (widthBy (byteBy o (entry 0)) eight) ≡
+        pick rs (pick wr (passed (p .sheet)) (written (byteOf p log) (p .sheet))) (obeyed (byteOf p log) (p .sheet)) .registers .eight
+    step true true s same = refl
+    step true false s same = sym (written-width (byteOf p log) (p .sheet))
+    step false true s same = absurd (false≢true (sym s))
+    step false false s same = ap (λ x. widthBy x eight) (same refl) ∙ sym (obeyed-width (byteOf p log) (p .sheet))
+
+    by : (n : ℕ) → Case p log n → widthAfter eight o (entry n) ≡ panelFor n p log .sheet .registers .eight
+    by n (unsound a) = refl
+    by n (cut a b) = refl
+    by n (bad a b c) = refl
+    by n (back a b c d) = refl
+    by n (reset c a) = rw a
+    by n (torn c a b) = refl
+    by n (ignored c a) = refl
+    by n (nothing c a b) = refl
+    by n (held c a) = refl
+    by n (status c a b) = refl
+    by n (taken c a b) =
+        rw (c .paired .transfer)
+        (step (rsOf log) (rwOf log) b (byte-same eight o h (parts p (c .paired .heard .sound) .half) a (c .minded) (c .paired .whole)))
+
+-- records that follow each other
+all-decided : (fs : List (List ℕ)) (p : Panel) (o : Open) → Agrees o (p .half) → AllDecided (p .sheet .registers .eight) o (entriesFrom p fs)
+all-decided [] p o h = tt
+all-decided (f ∷ fs) p o h =
+    let e = entryOf p f in
+    let eight = p .sheet .registers .eight in
+    (decided p f o h,
+    subst (λ b. AllDecided b (openAfter eight o e) (entriesFrom (panelAfter p f) fs)) (sym (width p f o h))
+    (all-decided fs (panelAfter p f) (openAfter eight o e) (agrees p f o h)))
+
+-- every log from a fresh panel
+pub ignored-exactly-when-busy : IgnoredExactlyWhenBusy
+ignored-exactly-when-busy r l s log = all-decided (frames log) (freshPanel r l s) none closed
