@@ -3,26 +3,24 @@ use Prim.Native.Nat.{ℕ, _+_, _*_, _%_, _/_}
 use mathlib.Core.Path.{_≡_, refl, sym, ap, subst, _∙_}
 use mathlib.Core.Bool.{Bool, true, false, not, _&&_, _||_, Bool·beq, false≢true}
 use mathlib.Core.List.{List, [], _∷_}
-use native.Mathlib.Omega.{arith}
 use native.Mathlib.Nat.{mod-eq-of-lt}
 use lib.Dec.{ltb, leb, eqb}
-use borrow.Author.Tests.{ltb-true, ltb-false, leb-true, leb-false, eqb-true, lt-ltb, le-ltb, not-true, not-false}
+use borrow.Author.Tests.{ltb-true, leb-true, leb-false, lt-ltb, le-ltb, not-true}
 use Rattle.laws.specs.Pick.{pick}
-use Rattle.log.specs.Frame.{kindOf, timeOf, dataOf, rsOf, rwOf, isTransfer, isReset}
+use Rattle.log.specs.Frame.{timeOf, dataOf, rsOf, rwOf}
 use Rattle.log.specs.FrontLaws.{or-left, or-right}
 use Rattle.log.specs.Frames.{frames}
-use Rattle.chip.specs.Sheet.{freshSheet}
 use Rattle.chip.specs.Step.{obeyed, written, passed}
 use Rattle.chip.specs.WidthLaws.{obeyed-width, written-width}
 use Rattle.mirror.specs.Panel.{freshPanel, halfFits}
-use Rattle.mirror.specs.Way.{nibbleOf, joinedOf}
+use Rattle.mirror.specs.Way.{joinedOf}
 use Rattle.mirror.specs.Record.{free}
 use Rattle.mirror.specs.SoundLaws.{parts}
-use Rattle.mirror.specs.Table.{waits, isFirst, differs, tears, isStatus, busyAt, ignores, isNone, byteOf, sourceOf, heldHalf, ignoredHalf, sheetFor, panelFor}
+use Rattle.mirror.specs.Table.{waits, isFirst, differs, isStatus, busyAt, isNone, byteOf, sourceOf, heldHalf, panelFor}
 use Rattle.mirror.specs.Answers.{answerTo, panelAfter}
 use Rattle.mirror.specs.TableCase.{Case, answer-case, each-row}
 use Rattle.mirror.specs.TableCase.Case.{unsound, cut, bad, back, reset, torn, ignored, nothing, held, status, taken}
-use Rattle.mirror.specs.RecordKeeps.{status-minded}
+use Rattle.mirror.specs.RecordKeeps.{not-both, status-minded}
 use Rattle.mirror.specs.Busy.{Entry, entryOf, entriesFrom, Open, begunBy, byteBy, widthBy, widthAfter, opens, openAfter, wasBusy, Decided, isDecided, AllDecided, IgnoredExactlyWhenBusy}
 use Rattle.mirror.specs.Busy.Open.{none, first}
 use Rattle.mirror.specs.declared.half.Half.{Half}
@@ -86,9 +84,6 @@ module _ (p : Panel) (log : List ℕ) where
   minded-status true e z = absurd (status-minded p log e z)
   minded-status false e z = e
 
-  not-both : isTransfer log ≡ true → isReset log ≡ true → ⊥
-  not-both a b = omega (arith, eqb-true (kindOf log) 1 a, eqb-true (kindOf log) 2 b)
-
   decided : (o : Open) → Agrees o (p .half) → isDecided (entryOf p log) ≡ true → Decided (begunBy o (entryOf p log)) (entryOf p log)
   decided o h = by (answerTo p log) refl (answer-case p log) where
     by : (n : ℕ) → answerTo p log ≡ n → Case p log n → isDecided (entry n) ≡ true → Decided (begunBy o (entry n)) (entry n)
@@ -96,7 +91,7 @@ module _ (p : Panel) (log : List ℕ) where
     by n z (cut a b) e = absurd (false≢true e)
     by n z (bad a b c) e = absurd (false≢true e)
     by n z (back a b c d) e = absurd (false≢true e)
-    by n z (reset c a) e = absurd (not-both e a)
+    by n z (reset c a) e = absurd (not-both log e a)
     by n z (torn c a b) e = absurd (false≢true e)
     by n z (ignored c a) e = judged 3 true refl (minded-status (isStatus log) refl z) o h (c .whole) a
     by n z (nothing c a b) e = judged 7 false refl (no-status b) o h (c .whole) a
@@ -193,10 +188,11 @@ all-decided : (fs : List (List ℕ)) (p : Panel) (o : Open) → Agrees o (p .hal
 all-decided [] p o h = tt
 all-decided (f ∷ fs) p o h =
     let e = entryOf p f in
-    let eight = p .sheet .registers .eight in
-    (decided p f o h,
-    subst (λ b. AllDecided b (openAfter eight o e) (entriesFrom (panelAfter p f) fs)) (sym (width p f o h))
-    (all-decided fs (panelAfter p f) (openAfter eight o e) (agrees p f o h)))
+    let eight = p .sheet .registers .eight in (
+      decided p f o h,
+      subst (λ b. AllDecided b (openAfter eight o e) (entriesFrom (panelAfter p f) fs)) (sym (width p f o h))
+          (all-decided fs (panelAfter p f) (openAfter eight o e) (agrees p f o h)),
+    )
 
 -- every log from a fresh panel
 pub ignored-exactly-when-busy : IgnoredExactlyWhenBusy

@@ -13,7 +13,7 @@ use Rattle.mirror.specs.Record.{free, holding, done}
 use Rattle.mirror.specs.SoundLaws.{parts}
 use Rattle.mirror.specs.Table.{waits, isFirst, differs, tears, isStatus, busyAt, ignores, sheetFor, spanFor, heldHalf, ignoredHalf, panelFor}
 use Rattle.mirror.specs.Answers.{answerTo, panelAfter, panelAfterAll, clocked, AllUnclocked}
-use Rattle.mirror.specs.TableCase.{Heard, Paired, Acts, Case, answer-case, answer-panel, each-row}
+use Rattle.mirror.specs.TableCase.{Case, answer-case, answer-panel, each-row}
 use Rattle.mirror.specs.TableCase.Case.{unsound, cut, bad, back, reset, torn, ignored, nothing, held, status, taken}
 use Rattle.mirror.specs.declared.half.Half.{Half}
 use Rattle.mirror.specs.declared.half.Half.the-variants.{Empty, Ignored, Waiting}
@@ -88,11 +88,14 @@ second-clears p log w = by (after p log) where
   by (waiting half c f) e = f first
   by (acted s span) e = refl
 
+pub not-both : (log : List ℕ) → isTransfer log ≡ true → isReset log ≡ true → ⊥
+not-both log a b = omega (arith, eqb-true (kindOf log) 1 a, eqb-true (kindOf log) 2 b)
+
 -- a status read, at both widths, is not taken
 status-untaken : (p : Panel) (log : List ℕ) → isTransfer log ≡ true → isStatus log ≡ true → answerTo p log ≡ 0 → ⊥
 status-untaken p log k s z = by (subst (Case p log) z (answer-case p log)) where
   by : Case p log 0 → ⊥
-  by (reset h a) = omega (arith, eqb-true (kindOf log) 1 k, eqb-true (kindOf log) 2 a)
+  by (reset h a) = not-both log k a
   by (taken h a b) = false≢true (sym b ∙ s)
 
 -- and changes nothing but the last time and the half
@@ -148,7 +151,7 @@ module _ (p : Panel) (log : List ℕ) (mark : p .half ≡ Ignored (rsOf log) (rw
     by (cut a b) e = absurd (false≢true e)
     by (bad a b c) e = absurd (false≢true e)
     by (back a b c d) e = absurd (false≢true e)
-    by (reset h a) e = absurd (omega (arith, eqb-true (kindOf log) 1 kind, eqb-true (kindOf log) 2 a))
+    by (reset h a) e = absurd (not-both log kind a)
     by (torn h a b) e = absurd (false≢true (sym whole-pair ∙ b))
     by (ignored h a) e = refl
     by (nothing h a b) e = absurd (false≢true (sym a ∙ deaf-pair))

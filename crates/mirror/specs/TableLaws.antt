@@ -1,6 +1,6 @@
 -- One record is answered as the table says.
-use Prim.Native.Nat.{ℕ, _%_}
-use mathlib.Core.Path.{_≡_, refl, sym, ap}
+use Prim.Native.Nat.{ℕ}
+use mathlib.Core.Path.{_≡_, refl}
 use mathlib.Core.Bool.{Bool, true, false, not, _&&_, _||_, Bool·beq, false≢true}
 use mathlib.Core.List.{List}
 use lib.Dec.{eqb}
@@ -9,13 +9,12 @@ use Rattle.log.specs.Frame.{kindOf, timeOf, dataOf, rsOf, rwOf, isReset, record
 use Rattle.log.specs.FrameLaws.{Seen, seen}
 use Rattle.log.specs.FrameLaws.Seen.{cut, bad, transfer, reset}
 use Rattle.log.specs.declared.frame.Frame.{Frame}
-use Rattle.chip.specs.declared.registers.Registers.{Registers}
 use Rattle.chip.specs.Sheet.{freshSheet}
 use Rattle.mirror.specs.Panel.{halfFits, soundPanel}
-use Rattle.mirror.specs.Way.{joinedOf, finishOf, wholeOf, firstOf, secondOf, pairOf, wayOf}
+use Rattle.mirror.specs.Way.{joinedOf, wholeOf, firstOf, secondOf, wayOf}
 use Rattle.mirror.specs.Record.{recorded, free, done, went, transferred, answered, recordOf}
 use Rattle.mirror.specs.SoundLaws.{Sound, parts}
-use Rattle.mirror.specs.Table.{waits, differs, busyAt, isBack, numberFor, byteFor, panelFor, usedFor, paper, Row, Tabled}
+use Rattle.mirror.specs.Table.{waits, differs, busyAt, isBack, byteFor, panelFor, usedFor, paper, Row, Tabled}
 use Rattle.mirror.specs.Promise.{Records}
 use Rattle.mirror.specs.declared.answer.Answer.the-variants as say
 use Rattle.mirror.specs.declared.half.Half.{Half}
