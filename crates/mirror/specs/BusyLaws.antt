@@ -20,7 +20,8 @@ use Rattle.mirror.specs.Table.{waits, isFirst, differs, isStatus, busyAt
 use Rattle.mirror.specs.Answers.{answerTo, panelAfter}
 use Rattle.mirror.specs.TableCase.{Case, answer-case, each-row}
 use Rattle.mirror.specs.TableCase.Case.{unsound, cut, bad, back, reset, torn, ignored, nothing, held, status, taken}
-use Rattle.mirror.specs.RecordKeeps.{not-both, status-minded}
+use Rattle.mirror.specs.RecordKeeps.{not-both}
+use Rattle.mirror.specs.HalfLaws.{status-minded}
 use Rattle.mirror.specs.Busy.{Entry, entryOf, entriesFrom, Open, begunBy, byteBy, widthBy, widthAfter, opens, openAfter, wasBusy, Decided, isDecided, AllDecided, IgnoredExactlyWhenBusy}
 use Rattle.mirror.specs.Busy.Open.{none, first}
 use Rattle.mirror.specs.declared.half.Half.{Half}

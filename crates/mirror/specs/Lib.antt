@@ -11,5 +11,6 @@ pub mod TableLaws
 pub mod Answers
 pub mod TableCase
 pub mod RecordKeeps
+pub mod HalfLaws
 pub mod Busy
 pub mod BusyLaws

@@ -65,19 +65,23 @@ ignores p log = busyAt (p .half) (not (isStatus log) && not (free (timeOf log) p
 abbrev pub isNone : Panel → List ℕ → Bool
 isNone p log = not (isFirst p) && not (rsOf log) && not (rwOf log) && eqb (byteOf p log) 0
 
--- the answer's number. Order: 10, 8, 6, 5; then a reset is taken; then 4, 3, 7, the rest
+-- the number of a transfer that is neither cut, bad nor back: 4, 3, 7, the rest
+abbrev pub transferFor : Panel → List ℕ → ℕ
+transferFor p log =
+    pick (tears p log) 4
+    (pick (ignores p log) 3
+    (pick (isNone p log) 7
+    (pick (isFirst p) 1
+    (pick (isStatus log) 2 0))))
+
+-- the answer's number. Order: 10, 8, 6, 5; then a reset is taken; then a transfer's
 abbrev pub numberFor : Panel → List ℕ → ℕ
 numberFor p log =
     pick (not (soundPanel p)) 10
     (pick (cutAt log) 8
     (pick (badAt log) 6
     (pick (isBack p log) 5
-    (pick (isReset log) 0
-    (pick (tears p log) 4
-    (pick (ignores p log) 3
-    (pick (isNone p log) 7
-    (pick (isFirst p) 1
-    (pick (isStatus log) 2 0)))))))))
+    (pick (isReset log) 0 (transferFor p log)))))
 
 -- what a read gives: the status, or the byte at the address
 abbrev pub sourceOf : Panel → List ℕ → ℕ

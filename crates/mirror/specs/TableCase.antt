@@ -7,7 +7,7 @@ use Rattle.laws.specs.Pick.{pick}
 use Rattle.log.specs.Frame.{isReset, cutAt, badAt}
 use Rattle.mirror.specs.Panel.{soundPanel}
 use Rattle.mirror.specs.Answers.{answerTo, panelAfter}
-use Rattle.mirror.specs.Table.{isBack, tears, ignores, isNone, isFirst, isStatus, numberFor, panelFor, Paper}
+use Rattle.mirror.specs.Table.{isBack, tears, ignores, isNone, isFirst, isStatus, transferFor, numberFor, panelFor, Paper}
 use Rattle.mirror.specs.TableLaws.{tabled}
 use Rattle.mirror.specs.declared.panel.Panel.{Panel}
 
@@ -69,7 +69,7 @@ module _ (p : Panel) (log : List ℕ) where
         (pick b 8
         (pick c 6
         (pick d 5
-        (pick (isReset log) 0 (pick (tears p log) 4 (pick (ignores p log) 3 (pick (isNone p log) 7 (pick (isFirst p) 1 (pick (isStatus log) 2 0))))))))))
+        (pick (isReset log) 0 (transferFor p log))))))
     by false b c d e f g h = unsound e
     by true true c d e f g h = cut e f
     by true false true d e f g h = bad e f g

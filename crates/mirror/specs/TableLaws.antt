@@ -14,7 +14,7 @@ use Rattle.mirror.specs.Panel.{halfFits, soundPanel}
 use Rattle.mirror.specs.Way.{joinedOf, wholeOf, firstOf, secondOf, wayOf}
 use Rattle.mirror.specs.Record.{recorded, free, done, went, transferred, answered, recordOf}
 use Rattle.mirror.specs.SoundLaws.{Sound, parts}
-use Rattle.mirror.specs.Table.{waits, differs, busyAt, isBack, byteFor, panelFor, usedFor, paper, Row, Tabled}
+use Rattle.mirror.specs.Table.{waits, differs, busyAt, isBack, transferFor, byteFor, panelFor, usedFor, paper, Row, Tabled}
 use Rattle.mirror.specs.Promise.{Records}
 use Rattle.mirror.specs.declared.answer.Answer.the-variants as say
 use Rattle.mirror.specs.declared.half.Half.{Half}
@@ -24,7 +24,7 @@ use Rattle.mirror.specs.declared.record.Recorded.{Recorded}
 use Rattle.mirror.specs.declared.way.Way.{Way}
 use Rattle.mirror.specs.declared.way.Way.the-variants as way
 
--- the tests on a transfer, with all that they look at apart
+-- `transferFor` with all that it looks at apart, so that each can be generalised
 abbrev numberBy : Bool → Half → Bool → Bool → Bool → ℕ → ℕ
 numberBy eight half free rs wr byte =
     let first = not eight && not (waits half) in
@@ -32,14 +32,9 @@ numberBy eight half free rs wr byte =
     (pick (busyAt half (not (wr && not rs) && not free)) 3
     (pick (not first && not rs && not wr && eqb byte 0) 7 (pick first 1 (pick (wr && not rs) 2 0))))
 
-abbrev transferNumber : Panel → List ℕ → ℕ
-transferNumber p log =
-    let eight = p .sheet .registers .eight in
-    numberBy eight (p .half) (free (timeOf log) p) (rsOf log) (rwOf log) (joinedOf eight (p .half) (dataOf log))
-
--- and all that follow the test of the panel
+-- all tests but that of the panel
 abbrev frameNumber : Panel → List ℕ → ℕ
-frameNumber p log = pick (cutAt log) 8 (pick (badAt log) 6 (pick (isBack p log) 5 (pick (isReset log) 0 (transferNumber p log))))
+frameNumber p log = pick (cutAt log) 8 (pick (badAt log) 6 (pick (isBack p log) 5 (pick (isReset log) 0 (transferFor p log))))
 
 -- a panel with its width and half set anew
 abbrev at : Bool → Half → Panel → Panel
@@ -129,7 +124,7 @@ module _ (p : Panel) (log : List ℕ) where
 
 module _ (p : Panel) (log : List ℕ) where
   transfer-row : halfFits (p .sheet .registers .eight) (p .half) ≡ true → kindOf log ≡ 1 → 14 ≡ recordSize log →
-      Row (transferNumber p log) p log (transferred (timeOf log) (rsOf log) (rwOf log) (dataOf log) p)
+      Row (transferFor p log) p log (transferred (timeOf log) (rsOf log) (rwOf log) (dataOf log) p)
   unfolding transferred
   transfer-row f k s =
       goes p log (p .sheet .registers .eight) (p .half) (free (timeOf log) p) (rwOf log) (rsOf log) f
