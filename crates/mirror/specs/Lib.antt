@@ -14,3 +14,4 @@ pub mod RecordKeeps
 pub mod HalfLaws
 pub mod Busy
 pub mod BusyLaws
+pub mod BusyCases
