@@ -1,14 +1,14 @@
 -- The busy rule at work, computed: which transfer each entry began with, and how it is answered.
 use Prim.Native.Nat.{ℕ}
 use mathlib.Core.Path.{_≡_, refl}
-use mathlib.Core.Bool.{Bool, true, false}
-use mathlib.Core.List.{List, [], _∷_, _++_}
+use mathlib.Core.Bool.{Bool, true}
+use mathlib.Core.List.{List, [], _∷_}
 use Rattle.log.specs.Frame.{num16, num64, cutAt, badAt, frameOf, timeOf}
 use Rattle.chip.specs.Sound.{patternFits}
 use Rattle.mirror.specs.Panel.{freshPanel}
 use Rattle.mirror.specs.Record.{transferred, recordOf}
 use Rattle.mirror.specs.Busy.{Entry, entriesFrom, Open, begunBy, widthAfter, openAfter}
-use Rattle.mirror.specs.Busy.Open.{none, first}
+use Rattle.mirror.specs.Busy.Open.{none}
 
 -- a transfer at a time below 256
 abbrev sent : ℕ → ℕ → ℕ → List ℕ

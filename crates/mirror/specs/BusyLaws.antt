@@ -15,7 +15,7 @@ use Rattle.chip.specs.WidthLaws.{obeyed-width, written-width}
 use Rattle.mirror.specs.Panel.{freshPanel, halfFits}
 use Rattle.mirror.specs.Way.{joinedOf}
 use Rattle.mirror.specs.Record.{free}
-use Rattle.mirror.specs.SoundLaws.{parts}
+use Rattle.mirror.specs.SoundParts.{parts}
 use Rattle.mirror.specs.Table.{waits, isFirst, differs, isStatus, busyAt, isNone, byteOf, sourceOf, heldHalf, panelFor}
 use Rattle.mirror.specs.Answers.{answerTo, panelAfter}
 use Rattle.mirror.specs.TableCase.{Case, answer-case, each-row}

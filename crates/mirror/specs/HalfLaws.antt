@@ -7,7 +7,7 @@ use Rattle.laws.specs.Pick.{pick}
 use Rattle.log.specs.Frame.{timeOf, rsOf, rwOf, isTransfer}
 use Rattle.mirror.specs.Panel.{halfFits}
 use Rattle.mirror.specs.Record.{free}
-use Rattle.mirror.specs.SoundLaws.{parts}
+use Rattle.mirror.specs.SoundParts.{parts}
 use Rattle.mirror.specs.Table.{waits, isFirst, differs, tears, isStatus, busyAt, ignores, panelFor}
 use Rattle.mirror.specs.Answers.{answerTo, panelAfter, panelAfterAll, clocked, AllUnclocked}
 use Rattle.mirror.specs.RecordKeeps.{not-both, second-clears, between-keeps}

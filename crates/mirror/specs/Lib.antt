@@ -4,7 +4,7 @@ pub mod Way
 pub mod Record
 pub mod Live
 pub mod RecordLaws
-pub mod SoundLaws
+pub mod SoundParts
 pub mod Table
 pub mod Promise
 pub mod TableLaws
@@ -12,6 +12,7 @@ pub mod Answers
 pub mod TableCase
 pub mod RecordKeeps
 pub mod HalfLaws
+pub mod SoundLaws
 pub mod Busy
 pub mod BusyLaws
 pub mod BusyCases

@@ -13,7 +13,7 @@ use Rattle.chip.specs.Sheet.{freshSheet}
 use Rattle.mirror.specs.Panel.{halfFits, soundPanel}
 use Rattle.mirror.specs.Way.{joinedOf, wholeOf, firstOf, secondOf, wayOf}
 use Rattle.mirror.specs.Record.{recorded, free, done, went, transferred, answered, recordOf}
-use Rattle.mirror.specs.SoundLaws.{Sound, parts}
+use Rattle.mirror.specs.SoundParts.{Sound, parts}
 use Rattle.mirror.specs.Table.{waits, differs, busyAt, isBack, transferFor, byteFor, panelFor, usedFor, paper, Row, Tabled}
 use Rattle.mirror.specs.Promise.{Records}
 use Rattle.mirror.specs.declared.answer.Answer.the-variants as say
