@@ -4,4 +4,5 @@ pub mod Sheet
 pub mod Step
 pub mod Sound
 pub mod StepLaws
+pub mod WidthLaws
 pub mod SoundLaws

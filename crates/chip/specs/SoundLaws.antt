@@ -11,6 +11,7 @@ use lib.Seq.{drop-cons}
 use lib.Dec.{ltb}
 use borrow.Author.Tests.{ltb-false, not-false, lt-ltb, le-ltb}
 use Rattle.laws.specs.Pick.{pick}
+use Rattle.laws.specs.PickLaws.{past}
 use Rattle.laws.specs.Ring.{moved-below}
 use Rattle.chip.specs.Address.{displaySize, patternSize, display, pattern, movedAddress}
 use Rattle.chip.specs.Sheet.{freshSheet}
@@ -39,15 +40,6 @@ pub record Sound (s : Sheet) : Type 0 where
   pub shift : s .registers .shift < displaySize
   pub function : s .registers .function < 16
   pub entries : patternFits (s .pattern) ≡ true
-
--- a test that failed, and the rest
-record Past (t rest : Bool) : Type 0 where
-  here : t ≡ false
-  later : rest ≡ true
-
-past : (t : Bool) {rest : Bool} → pick t false rest ≡ true → Past t rest
-past true e = absurd (let z : _≡_ {A = ℕ} 0 1 = cc in omega arith)
-past false e = record { here = refl; later = e }
 
 pub parts : (s : Sheet) → soundSheet s ≡ true → Sound s
 parts s e =

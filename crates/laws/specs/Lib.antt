@@ -1,4 +1,5 @@
 pub mod Lists
 pub mod Pick
+pub mod PickLaws
 pub mod Ring
 pub mod Turns

@@ -9,3 +9,16 @@ pub mod RunLaws
 pub mod Stream
 pub mod StreamLaws
 pub mod NextLaws
+pub mod SoundParts
+pub mod Table
+pub mod Promise
+pub mod TableLaws
+pub mod Answers
+pub mod TableCase
+pub mod RecordKeeps
+pub mod HalfLaws
+pub mod SoundLaws
+pub mod Busy
+pub mod BusyLaws
+pub mod BusyCases
+pub mod RunRecords

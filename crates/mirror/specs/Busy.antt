@@ -1,0 +1,86 @@
+-- Ignored exactly when busy (document 01, "Busy", "Halves"): the statement, over a log and its answers.
+-- A write or data read, whole or as two matching halves, is ignored exactly when the chip was busy as it began.
+use Prim.Native.Nat.{ℕ, _+_, _*_, _/_}
+use mathlib.Core.Path.{_≡_}
+use mathlib.Core.Bool.{Bool, true, false, not, _&&_, _||_}
+use mathlib.Core.List.{List, [], _∷_}
+use lib.Dec.{ltb, eqb}
+use Rattle.laws.specs.Pick.{pick}
+use Rattle.log.specs.Frame.{timeOf, dataOf, rsOf, rwOf, isTransfer, isReset}
+use Rattle.log.specs.Frames.{frames}
+use Rattle.chip.specs.Instruction.{bit}
+use Rattle.mirror.specs.Panel.{freshPanel}
+use Rattle.mirror.specs.Answers.{answerTo, panelAfter, clocked}
+use Rattle.mirror.specs.declared.panel.Panel.{Panel}
+
+-- a record's bytes, the number that it is answered with, and the busy end of the panel before it
+pub record Entry : Type 0 where
+  pub bytes : List ℕ
+  pub number : ℕ
+  pub until : ℕ
+
+abbrev pub entryOf : Panel → List ℕ → Entry
+entryOf p log = record { bytes = log; number = answerTo p log; until = p .busy }
+
+-- records that follow each other
+abbrev pub entriesFrom : Panel → List (List ℕ) → List Entry
+entriesFrom p [] = []
+entriesFrom p (f ∷ fs) = entryOf p f ∷ entriesFrom (panelAfter p f) fs
+
+-- the first half that is open, if any
+pub data Open : Type 0 where
+  none : Open
+  first : Entry → Open
+
+-- the transfer that an entry began with: the first half that is open, or itself
+abbrev pub begunBy : Open → Entry → Entry
+begunBy none e = e
+begunBy (first f) e = f
+
+-- the byte of a write: whole, or joined of the two halves
+abbrev pub byteBy : Open → Entry → ℕ
+byteBy none e = dataOf (e .bytes)
+byteBy (first f) e = dataOf (f .bytes) / 16 * 16 + dataOf (e .bytes) / 16
+
+-- Function Set, 20h to 3Fh: bit 4 gives width 8 if 1
+abbrev pub widthBy : ℕ → Bool → Bool
+widthBy byte eight = pick (ltb byte 0x20) eight (pick (ltb byte 0x40) (bit 16 byte) eight)
+
+-- the width afterwards: a taken reset gives width 8, a taken instruction what its byte says
+abbrev pub widthAfter : Bool → Open → Entry → Bool
+widthAfter eight o e =
+    pick (not (eqb (e .number) 0)) eight
+    (pick (isReset (e .bytes)) true
+    (pick (rsOf (e .bytes) || rwOf (e .bytes)) eight (widthBy (byteBy o e) eight)))
+
+-- an entry that is a first half: held or ignored at width 4, where none is open
+abbrev pub opens : Bool → Open → Entry → Bool
+opens eight none e = (eqb (e .number) 1 || eqb (e .number) 3) && not eight
+opens eight (first f) e = false
+
+-- which first half is open afterwards: bad and back records may stand between the halves, every other ends the pair
+abbrev pub openAfter : Bool → Open → Entry → Open
+openAfter eight o e = pick (not (clocked (e .number))) o (pick (opens eight o e) (first e) none)
+
+-- busy: a time below the busy end
+abbrev pub wasBusy : Entry → Bool
+wasBusy e = ltb (timeOf (e .bytes)) (e .until)
+
+-- answered 3 exactly when the chip was busy: the entry, and the first half that it began with
+pub record Decided (begun e : Entry) : Type 0 where
+  pub own : eqb (e .number) 3 ≡ wasBusy begun
+  pub began : eqb (begun .number) 3 ≡ wasBusy begun
+
+-- a transfer answered 0, 3 or 7: a write or data read that is complete, or ignored
+abbrev pub isDecided : Entry → Bool
+isDecided e = (eqb (e .number) 0 || eqb (e .number) 3 || eqb (e .number) 7) && isTransfer (e .bytes)
+
+-- so for every such entry, read from a width and an open first half on
+abbrev pub AllDecided : Bool → Open → List Entry → Type 0
+AllDecided eight o [] = Unit {0}
+AllDecided eight o (e ∷ es) =
+    (isDecided e ≡ true → Decided (begunBy o e) e) × AllDecided (widthAfter eight o e) (openAfter eight o e) es
+
+-- and so for every log from a fresh panel, at width 8 with no half open
+abbrev pub IgnoredExactlyWhenBusy : Type 0
+IgnoredExactlyWhenBusy = (reset long short : ℕ) (log : List ℕ) → AllDecided true none (entriesFrom (freshPanel reset long short) (frames log))

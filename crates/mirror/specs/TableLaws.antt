@@ -1,0 +1,159 @@
+-- One record is answered as the table says.
+use Prim.Native.Nat.{ℕ}
+use mathlib.Core.Path.{_≡_, refl}
+use mathlib.Core.Bool.{Bool, true, false, not, _&&_, _||_, Bool·beq, false≢true}
+use mathlib.Core.List.{List}
+use lib.Dec.{eqb}
+use Rattle.laws.specs.Pick.{pick}
+use Rattle.log.specs.Frame.{kindOf, timeOf, dataOf, rsOf, rwOf, isReset, recordSize, cutAt, badAt, frameOf}
+use Rattle.log.specs.FrameLaws.{Seen, seen}
+use Rattle.log.specs.FrameLaws.Seen.{cut, bad, transfer, reset}
+use Rattle.log.specs.declared.frame.Frame.{Frame}
+use Rattle.chip.specs.Sheet.{freshSheet}
+use Rattle.mirror.specs.Panel.{halfFits, soundPanel}
+use Rattle.mirror.specs.Way.{joinedOf, wholeOf, firstOf, secondOf, wayOf}
+use Rattle.mirror.specs.Record.{recorded, free, done, went, transferred, answered, recordOf}
+use Rattle.mirror.specs.SoundParts.{Sound, parts}
+use Rattle.mirror.specs.Table.{waits, differs, busyAt, isBack, transferFor, byteFor, panelFor, usedFor, paper, Row, Tabled}
+use Rattle.mirror.specs.Promise.{Records}
+use Rattle.mirror.specs.declared.answer.Answer.the-variants as say
+use Rattle.mirror.specs.declared.half.Half.{Half}
+use Rattle.mirror.specs.declared.half.Half.the-variants.{Empty, Ignored, Waiting}
+use Rattle.mirror.specs.declared.panel.Panel.{Panel}
+use Rattle.mirror.specs.declared.record.Recorded.{Recorded}
+use Rattle.mirror.specs.declared.way.Way.{Way}
+use Rattle.mirror.specs.declared.way.Way.the-variants as way
+
+-- `transferFor` with all that it looks at apart, so that each can be generalised
+abbrev numberBy : Bool → Half → Bool → Bool → Bool → ℕ → ℕ
+numberBy eight half free rs wr byte =
+    let first = not eight && not (waits half) in
+    pick (differs half rs wr) 4
+    (pick (busyAt half (not (wr && not rs) && not free)) 3
+    (pick (not first && not rs && not wr && eqb byte 0) 7 (pick first 1 (pick (wr && not rs) 2 0))))
+
+-- all tests but that of the panel
+abbrev frameNumber : Panel → List ℕ → ℕ
+frameNumber p log = pick (cutAt log) 8 (pick (badAt log) 6 (pick (isBack p log) 5 (pick (isReset log) 0 (transferFor p log))))
+
+-- a panel with its width and half set anew
+abbrev at : Bool → Half → Panel → Panel
+at eight half p =
+    let r = p .sheet .registers in
+    record {
+      sheet =
+          record {
+            registers =
+                record { address = r .address; shift = r .shift; up = r .up; follow = r .follow; on = r .on; cursor = r .cursor; blink = r .blink; eight = eight; function = r .function };
+            display = p .sheet .display;
+            pattern = p .sheet .pattern;
+          };
+      busy = p .busy;
+      half = half;
+      times = p .times;
+      last = p .last;
+    }
+
+-- a transfer that is neither cut nor bad, with its RS and R/W
+record Good (log : List ℕ) (rs wr : Bool) : Type 0 where
+  kind : kindOf log ≡ 1
+  size : 14 ≡ recordSize log
+  rs-is : rsOf log ≡ rs
+  wr-is : rwOf log ≡ wr
+
+-- the row of a way
+abbrev Goes : ℕ → Way → ℕ → Panel → List ℕ → Type 0
+Goes n v byte p log = Row n p log (went v (timeOf log) (rsOf log) (rwOf log) (dataOf log) byte p)
+
+module _ (p : Panel) (log : List ℕ) where
+  row : {n : ℕ} {q : Panel} {r : Recorded} →
+      paper (r .answer) (r .byte) ≡ record { number = n; byte = r .byte } → r .byte ≡ byteFor n q log → r .panel ≡ panelFor n q log →
+      r .used ≡ usedFor n log → Row n q log r
+  row a b c d = record { paper = a; byte = b; panel = c; used = d }
+
+  -- an instruction write that is complete
+  code : (eight : Bool) (half : Half) → Good log false false → (b : Bool) →
+      Goes (pick b 7 0) (pick b way.Nothing way.Obey) (joinedOf eight half (dataOf log)) (at eight half p) log
+  code eight half g true = row refl refl refl (g .size)
+  code eight half g false = row refl (rw (g .kind, g .wr-is)) (rw (g .kind, g .rs-is)) (g .size)
+
+  whole : (free wr rs : Bool) → Good log rs wr →
+      let byte = dataOf log in Goes (numberBy true Empty free rs wr byte) (wholeOf free rs wr byte) byte (at true Empty p) log
+  whole free true false g = row refl (rw (g .kind, g .rs-is, g .wr-is)) refl (g .size)
+  whole false true true g = row refl refl refl (g .size)
+  whole false false rs g = row refl refl refl (g .size)
+  whole true true true g = row refl (rw (g .kind, g .rs-is, g .wr-is)) (rw (g .kind, g .rs-is, g .wr-is)) (g .size)
+  whole true false true g = row refl (rw (g .kind, g .wr-is)) (rw (g .kind, g .rs-is, g .wr-is)) (g .size)
+  whole true false false g = code true Empty g (eqb (dataOf log) 0)
+
+  first : (byte : ℕ) (free wr rs : Bool) → Good log rs wr →
+      Goes (numberBy false Empty free rs wr byte) (firstOf free rs wr) byte (at false Empty p) log
+  first byte free true false g = row refl (rw (g .kind, g .rs-is, g .wr-is)) (rw (g .rs-is, g .wr-is)) (g .size)
+  first byte false true true g = row refl refl refl (g .size)
+  first byte false false rs g = row refl refl refl (g .size)
+  first byte true true true g = row refl (rw (g .kind, g .rs-is, g .wr-is)) (rw (g .rs-is, g .wr-is)) (g .size)
+  first byte true false rs g = row refl (rw (g .kind, g .wr-is)) (rw (g .wr-is)) (g .size)
+
+  second : (r w : Bool) (nibble : ℕ) (wr rs : Bool) → Good log rs wr → let h = Waiting r w nibble in let byte = joinedOf false h (dataOf log) in
+      Goes (pick (not rs && not wr && eqb byte 0) 7 (pick (wr && not rs) 2 0)) (secondOf rs wr byte) byte (at false h p) log
+  second r w nibble true false g = row refl (rw (g .kind, g .wr-is)) refl (g .size)
+  second r w nibble true true g = row refl (rw (g .kind, g .wr-is)) (rw (g .kind, g .rs-is, g .wr-is)) (g .size)
+  second r w nibble false true g = row refl (rw (g .kind, g .wr-is)) (rw (g .kind, g .rs-is, g .wr-is)) (g .size)
+  second r w nibble false false g = code false (Waiting r w nibble) g (eqb (joinedOf false (Waiting r w nibble) (dataOf log)) 0)
+
+  torn : (h : Half) (byte : ℕ) (a b : Bool) {n : ℕ} (v : Way) → 14 ≡ recordSize log → Goes n v byte (at false h p) log →
+      Goes (pick (a || b) 4 n) (pick a way.Torn (pick b way.Torn v)) byte (at false h p) log
+  torn h byte true b v s g = row refl refl refl s
+  torn h byte false true v s g = row refl refl refl s
+  torn h byte false false v s g = g
+
+  goes : (eight : Bool) (half : Half) (free wr rs : Bool) → halfFits eight half ≡ true → Good log rs wr →
+      let byte = joinedOf eight half (dataOf log) in
+      Goes (numberBy eight half free rs wr byte) (wayOf eight half free rs wr byte) byte (at eight half p) log
+  goes true Empty free wr rs f g = whole free wr rs g
+  goes true (Ignored r w) free wr rs f g = absurd (false≢true f)
+  goes true (Waiting r w nibble) free wr rs f g = absurd (false≢true f)
+  goes false Empty free wr rs f g = first (joinedOf false Empty (dataOf log)) free wr rs g
+  goes false (Ignored r w) free wr rs f g =
+      torn (Ignored r w) (joinedOf false (Ignored r w) (dataOf log)) (not (Bool·beq r rs)) (not (Bool·beq w wr)) way.Ignored (g .size)
+      (row refl refl refl (g .size))
+  goes false (Waiting r w nibble) free wr rs f g =
+      let byte = joinedOf false (Waiting r w nibble) (dataOf log) in
+      torn (Waiting r w nibble) byte (not (Bool·beq r rs)) (not (Bool·beq w wr)) (secondOf rs wr byte) (g .size)
+      (second r w nibble wr rs g)
+
+module _ (p : Panel) (log : List ℕ) where
+  transfer-row : halfFits (p .sheet .registers .eight) (p .half) ≡ true → kindOf log ≡ 1 → 14 ≡ recordSize log →
+      Row (transferFor p log) p log (transferred (timeOf log) (rsOf log) (rwOf log) (dataOf log) p)
+  unfolding transferred
+  transfer-row f k s =
+      goes p log (p .sheet .registers .eight) (p .half) (free (timeOf log) p) (rwOf log) (rsOf log) f
+      (record { kind = k; size = s; rs-is = refl; wr-is = refl })
+
+  unless-back : (b : Bool) {n size : ℕ} (r : Recorded) → size ≡ recordSize log → Row n p log r → Row (pick b 5 n) p log (pick b (recorded p say.Back 0 size) r)
+  unless-back true r s h = row p log refl refl refl s
+  unless-back false r s h = h
+
+  frame-row : Sound p → (f : Frame) → Seen log f → Row (frameNumber p log) p log (answered f p)
+  frame-row h f (cut u) = rw u (row p log refl refl refl refl)
+  frame-row h f (bad g b) = rw (g .uncut, b) (row p log refl refl refl (g .size))
+  frame-row h f (transfer g k b t) =
+      rw (g .uncut, b, k)
+      (unless-back (isBack p log) (transferred (timeOf log) (rsOf log) (rwOf log) (dataOf log) p) (g .size) (transfer-row (h .half) k (g .size)))
+  frame-row h f (reset g k b t) =
+      rw (g .uncut, b, k)
+      (unless-back (isBack p log) (recorded (done (timeOf log) freshSheet (p .times .reset) p) say.Taken 0 12) (g .size)
+      (row p log refl (rw k) (rw k) (g .size)))
+
+-- one record: the answer's number, the bus byte, the panel afterwards and the bytes used are the table's
+pub tabled : (p : Panel) (log : List ℕ) → Tabled p log (recordOf p log)
+unfolding recordOf
+tabled p log = by (soundPanel p) refl where
+  by : (b : Bool) → soundPanel p ≡ b →
+      Row (pick (not b) 10 (frameNumber p log)) p log (pick b (answered (frameOf log) p) (recorded p say.Unsound 0 0))
+  by true e = frame-row p log (parts p e) (frameOf log) (seen log)
+  by false e = row p log refl refl refl refl
+
+-- so what one record comes to is all that `record` promises
+pub records : (p : Panel) (log : List ℕ) (r : Recorded) → r ≡ recordOf p log → Records p log r
+records p log r e = record { is = e; tabled = rw e (tabled p log) }
