@@ -1,0 +1,12 @@
+pub mod Bit
+pub mod BitLaws
+pub mod Table
+pub mod TableLaws
+pub mod Parts
+pub mod Landing
+pub mod LandingLaws
+pub mod ByRows
+pub mod Cells
+pub mod CellsLaws
+pub mod First
+pub mod FirstLaws
