@@ -70,7 +70,7 @@ unfolding pack
 is-pack h zero a l e = omega arith
 is-pack h (suc n) a l e =
     let rest : a / 2 ≡ pack (λ i. h (suc i)) n =
-      is-pack (λ i. h (suc i)) n (a / 2) (omega (arith, pow-suc 2 n)) (λ i p. sym (bit-half a i) ∙ e (suc i) (below p)) in
+    is-pack (λ i. h (suc i)) n (a / 2) (omega (arith, pow-suc 2 n)) (λ i p. sym (bit-half a i) ∙ e (suc i) (below p)) in
     omega (arith, bit-zero a, e 0 (omega arith))
   where
     below : {i m : ℕ} → i < m → suc i < suc m

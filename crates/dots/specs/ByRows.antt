@@ -42,4 +42,5 @@ byRows m n = record {
   row-in = (λ b i p q u. part-of n m b p);
   col-in = (λ b i p q u. column-in n (b % n) i (place-of n m b p));
   byte-back = (λ b i p q u. ap (λ (k : ℕ). b / n * n + k) (column-byte (b % n) i) ∙ div-add-mod' b n);
-  bit-back = (λ b i p q u. column-bit (b % n) i q) }
+  bit-back = (λ b i p q u. column-bit (b % n) i q);
+}

@@ -1,6 +1,7 @@
 -- The order in which a painter goes: line by line, cell by cell, within a cell by rows. A line has `across` cells, a cell
 -- `tall` rows of `wide` dots; the values are handed in by line, cell, row of the cell and column of the cell.
 use Prim.Native.Nat.{ℕ, _+_, _*_}
+use mathlib.Core.Path.{_≡_}
 use mathlib.Core.List.{List}
 use Rattle.dots.specs.Table.{inOrder, sum}
 use Rattle.dots.specs.Landing.{Landing, put}
@@ -30,3 +31,8 @@ lineSum tall wide across v = sum (λ p. blockSum tall wide (v p)) across
 
 abbrev pub pageSum : (tall wide across lines : ℕ) → (ℕ → ℕ → ℕ → ℕ → ℕ) → ℕ
 pageSum tall wide across lines v = sum (λ l. lineSum tall wide across (v l)) lines
+
+-- what a painter's step does: the frame that it leaves, and how many dots it lit
+pub record Lights (step : List ℕ → List ℕ) (count : ℕ) (before after : List ℕ) (lit : ℕ) : Type 0 where
+  pub frame : after ≡ step before
+  pub tally : lit ≡ count

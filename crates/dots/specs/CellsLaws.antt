@@ -3,7 +3,7 @@ use Prim.Native.Nat.{ℕ, zero, suc, _+_, _*_, _/_, _%_, _^_, _≤_, _<_, max}
 use mathlib.Core.Path.{_≡_, refl, sym, ap, ap₂, _∙_, subst}
 use mathlib.Core.Bool.{Bool, false}
 use mathlib.Core.List.{List}
-use native.Mathlib.Nat.{div-add-mod', not-suc-le-zero}
+use native.Mathlib.Nat.{zero-add, zero-mul, div-add-mod', not-suc-le-zero}
 use native.Mathlib.Decide.{ℕ-discrete, decLt}
 use native.Mathlib.Omega.{arith}
 use lib.ListN.{length, getD, replicate, length-replicate, getD-replicate, List·getD-eq-default}
@@ -14,7 +14,7 @@ use Rattle.dots.specs.Table.{inOrder, sum}
 use Rattle.dots.specs.TableLaws.{in-order-keeps, sum-cong, sum-blocks, sum-swap}
 use Rattle.dots.specs.Landing.{Landing, dot, frameOf, countOf, put}
 use Rattle.dots.specs.LandingLaws.{Bytes, is-frame, length-put, put-same, put-other, put-spare, put-bytes}
-use Rattle.dots.specs.Cells.{strip, block, line, page, pageSum}
+use Rattle.dots.specs.Cells.{strip, block, line, page, lineSum, pageSum}
 
 -- steps that paint g, over any landing
 module _ (L : Landing) (g : ℕ → ℕ → Bool) where
@@ -51,35 +51,40 @@ module _ (L : Landing) (g : ℕ → ℕ → Bool) where
         go (yes a) (yes b) =
             subst P
             (sym
-              (ap₂ (dot L (put L f r x v)) a b ∙ put-same L f r x v n p q small
-              ∙ ap₂ max (sym (ap₂ (dot L f) a b)) (e ∙ sym (ap₂ (λ (i j : ℕ). one (g i j)) a b))))
+            (ap₂ (dot L (put L f r x v)) a b ∙ put-same L f r x v n p q small
+            ∙ ap₂ max (sym (ap₂ (dot L f) a b)) (e ∙ sym (ap₂ (λ (i j : ℕ). one (g i j)) a b))))
             (same (a, b))
         go (yes a) (no b) = subst P (sym (put-other L f r x v n p q small s y ps qs (λ k. b (k .1)))) away
         go (no a) b = subst P (sym (put-other L f r x v n p q small s y ps qs (λ k. a (k .0)))) away
 
     put-way : (f : List ℕ) → OnTheWay f → OnTheWay (put L f r x v)
     put-way f W = record {
-      long = length-put L f r x v (W .long) p q small ∙ W .long;
+      long = length-put L f r x v ∙ W .long;
       bytes = put-bytes L f r x v (W .long) p q small (W .bytes);
       within = (λ s y ps qs. put-at f (W .long) s y ps qs (λ n. n ≤ one (g s y)) (W .within s y ps qs) (λ _. omega (arith, W .within s y ps qs)));
-      spare = (λ b i pb qi u. put-spare L f r x v (W .long) p q small b i u ∙ W .spare b i pb qi u) }
+      spare = (λ b i pb qi u. put-spare L f r x v (W .long) p q small b i u ∙ W .spare b i pb qi u);
+    }
 
     put-keeps : Keeps (λ f. put L f r x v)
     put-keeps = record {
       way = put-way;
       shown = (λ s y ps qs f S. record {
         way = put-way f (S .way);
-        here = put-at f (S .way .long) s y ps qs (λ n. n ≡ one (g s y)) (S .here) (λ _. omega (arith, S .here)) }) }
+        here = put-at f (S .way .long) s y ps qs (λ n. n ≡ one (g s y)) (S .here) (λ _. omega (arith, S .here));
+      });
+    }
 
     put-paints : Paints r x (λ f. put L f r x v)
     put-paints f W = record {
       way = put-way f W;
-      here = put-same L f r x v (W .long) p q small ∙ omega (arith, e, W .within r x p q) }
+      here = put-same L f r x v (W .long) p q small ∙ omega (arith, e, W .within r x p q);
+    }
 
   steps-keep : (step : ℕ → List ℕ → List ℕ) (n : ℕ) → ((m : ℕ) → m < n → Keeps (step m)) → Keeps (inOrder step n)
   steps-keep step n k = record {
     way = in-order-keeps OnTheWay step n (λ m h. k m h .way);
-    shown = (λ r x p q. in-order-keeps (Shows r x) step n (λ m h. k m h .shown r x p q)) }
+    shown = (λ r x p q. in-order-keeps (Shows r x) step n (λ m h. k m h .shown r x p q));
+  }
 
   steps-paint : (step : ℕ → List ℕ → List ℕ) (n m r x : ℕ) → r < L .rows → x < L .cols → ((i : ℕ) → i < n → Keeps (step i))
       → m < n → Paints r x (step m) → Paints r x (inOrder step n)
@@ -90,6 +95,7 @@ module _ (L : Landing) (g : ℕ → ℕ → Bool) where
     where
       k' : (i : ℕ) → i < n → Keeps (step i)
       k' i l = k i (omega arith)
+
       go : Dec (m ≡ n) → ((m ≡ n → ⊥) → Shows r x (inOrder step n f)) → Shows r x (inOrder step (suc n) f)
       go (yes e) before = subst (λ (i : ℕ). Shows r x (step i (inOrder step n f))) e (s (inOrder step n f) (steps-keep step n k' .way f W))
       go (no d) before = k n (omega arith) .shown r x p q (inOrder step n f) (before d)
@@ -129,8 +135,8 @@ module _ (L : Landing) (g : ℕ → ℕ → Bool) where
         (steps-paint _ across p r x hr hx (λ p hp. block-keeps l p hl hp) hp
         (steps-paint _ tall i r x hr hx (λ i hi. strip-keeps l p i hl hp hi) hi
         (steps-paint _ wide c r x hr hx
-          (λ c hc. put-keeps (l * tall + i) (p * wide + c) (v l p i c) (row-ok l i hl hi) (col-ok p c hp hc) (e l p i c hl hp hi hc))
-          hc (put-paints r x (v l p i c) hr hx (e l p i c hl hp hi hc)))))
+        (λ c hc. put-keeps (l * tall + i) (p * wide + c) (v l p i c) (row-ok l i hl hi) (col-ok p c hp hc) (e l p i c hl hp hi hc))
+        hc (put-paints r x (v l p i c) hr hx (e l p i c hl hp hi hc)))))
 
     -- every dot is some cell's
     page-shows : (r x : ℕ) → r < L .rows → x < L .cols → Paints r x (page L tall wide across lines v)
@@ -140,7 +146,7 @@ module _ (L : Landing) (g : ℕ → ℕ → Bool) where
         subst (λ (s : ℕ). Shows s x (page L tall wide across lines v f)) (div-add-mod' r tall)
         (subst (λ (y : ℕ). Shows (r / tall * tall + r % tall) y (page L tall wide across lines v f)) (div-add-mod' x wide)
         (page-paints (r / tall) (x / wide) (r % tall) (x % wide) (part-of tall lines r pr) (part-of wide across x qx)
-          (place-of tall lines r pr) (place-of wide across x qx) f W))
+        (place-of tall lines r pr) (place-of wide across x qx) f W))
 
     blank-at : (i : ℕ) → getD {A = ℕ} (replicate (L .size) 0) i 0 ≡ 0
     blank-at i = go (decLt i (L .size))
@@ -157,7 +163,8 @@ module _ (L : Landing) (g : ℕ → ℕ → Bool) where
       long = length-replicate (L .size) 0;
       bytes = (λ j. omega (arith, blank-at j));
       within = (λ r x p q. omega (arith, blank-bit (L .byteAt r x) (L .bitAt r x)));
-      spare = (λ b i p q u. blank-bit b i) }
+      spare = (λ b i p q u. blank-bit b i);
+    }
 
     -- all cells painted on a blank frame are the frame of g
     pub page-frame : page L tall wide across lines v (replicate (L .size) 0) ≡ frameOf L g
@@ -176,13 +183,25 @@ module _ (L : Landing) (g : ℕ → ℕ → Bool) where
       where
         row : ℕ → ℕ
         row r = sum (λ x. one (g r x)) (L .cols)
+
         of-row : (r : ℕ) → sum (λ p. sum (λ c. one (g r (p * wide + c))) wide) across ≡ row r
         of-row r = sym (sum-blocks (λ x. one (g r x)) across wide) ∙ ap (sum (λ x. one (g r x))) (sym broad)
+
         of-line : (l : ℕ) → l < lines → sum (λ p. sum (λ i. sum (v l p i) wide) tall) across ≡ sum (λ i. row (l * tall + i)) tall
         of-line l hl =
             sum-swap (λ p i. sum (v l p i) wide) across tall
             ∙ sum-cong (λ i. sum (λ p. sum (v l p i) wide) across) (λ i. row (l * tall + i)) tall
-              (λ i hi.
-                sum-cong (λ p. sum (v l p i) wide) (λ p. sum (λ c. one (g (l * tall + i) (p * wide + c))) wide) across
-                  (λ p hp. sum-cong (v l p i) (λ c. one (g (l * tall + i) (p * wide + c))) wide (λ c hc. e l p i c hl hp hi hc))
-                ∙ of-row (l * tall + i))
+            (λ i hi.
+            sum-cong (λ p. sum (v l p i) wide) (λ p. sum (λ c. one (g (l * tall + i) (p * wide + c))) wide) across
+            (λ p hp. sum-cong (v l p i) (λ c. one (g (l * tall + i) (p * wide + c))) wide (λ c hc. e l p i c hl hp hi hc))
+            ∙ of-row (l * tall + i))
+
+-- where there is one line
+module _ (L : Landing) (tall wide across : ℕ) (v : ℕ → ℕ → ℕ → ℕ → ℕ) where
+  pub one-line : (f : List ℕ) → page L tall wide across 1 v f ≡ line L tall wide across (v 0) 0 f
+  unfolding inOrder
+  one-line f = ap (λ (r : ℕ). line L tall wide across (v 0) r f) (zero-mul tall)
+
+  pub one-line-sum : pageSum tall wide across 1 v ≡ lineSum tall wide across (v 0)
+  unfolding sum
+  one-line-sum = zero-add (lineSum tall wide across (v 0))

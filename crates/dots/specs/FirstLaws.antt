@@ -35,12 +35,13 @@ module _ {A : Type 0} (t : ℕ → Bool) (found : ℕ → A) (none : A) where
   first-says P x (suc k) hit miss =
       go (t x) refl
       (λ e. first-says P (x + 1) k
-        (λ y p q u before. hit y (omega arith) (omega arith) u (λ z zp zq. at e z zp (λ l. before z l zq) (ℕ-discrete z x)))
-        (λ none. miss (λ z zp zq. at e z zp (λ l. none z l (omega arith)) (ℕ-discrete z x))))
+      (λ y p q u before. hit y (omega arith) (omega arith) u (λ z zp zq. at e z zp (λ l. before z l zq) (ℕ-discrete z x)))
+      (λ none. miss (λ z zp zq. at e z zp (λ l. none z l (omega arith)) (ℕ-discrete z x))))
     where
       at : t x ≡ false → (z : ℕ) → x ≤ z → (x + 1 ≤ z → t z ≡ false) → Dec (z ≡ x) → t z ≡ false
       at e z p rest (yes d) = ap t d ∙ e
       at e z p rest (no d) = rest (omega arith)
+
       go : (b : Bool) → t x ≡ b → (t x ≡ false → P (first t found none (x + 1) k)) → P (pick (t x) (found x) (first t found none (x + 1) k))
       go true e rest = rw e (hit x (omega arith) (omega arith) e (λ z p q. absurd (omega arith)))
       go false e rest = rw e (rest e)
@@ -73,13 +74,14 @@ module _ {A : Type 0} (t : ℕ → ℕ → Bool) (found : ℕ → ℕ → A) (no
       first-says (t r) (found r) (firstDot t found none cols (r + 1) k) P 0 cols
       (λ x _ q u before. hit r x (omega arith) (omega arith) (omega arith) u (λ i y p h b. in-row i y x p before b))
       (λ row.
-        first-dot-says P (r + 1) k
-        (λ s x p q h u before. hit s x (omega arith) (omega arith) h u (λ i y ip yh b. above row i y ip yh (λ l. before i y l yh b) (ℕ-discrete i r)))
-        (λ rest. miss (λ i y ip iq yh. above row i y ip yh (λ l. rest i y l (omega arith) yh) (ℕ-discrete i r))))
+      first-dot-says P (r + 1) k
+      (λ s x p q h u before. hit s x (omega arith) (omega arith) h u (λ i y ip yh b. above row i y ip yh (λ l. before i y l yh b) (ℕ-discrete i r)))
+      (λ rest. miss (λ i y ip iq yh. above row i y ip yh (λ l. rest i y l (omega arith) yh) (ℕ-discrete i r))))
     where
       in-row : (i y x : ℕ) → r ≤ i → ((z : ℕ) → 0 ≤ z → z < x → t r z ≡ false) → Before i y r x → t i y ≡ false
       in-row i y x p before (inl l) = absurd (omega arith)
       in-row i y x p before (inr e) = ap (λ (j : ℕ). t j y) (e .0) ∙ before y (omega arith) (e .1)
+
       above : ((z : ℕ) → 0 ≤ z → z < 0 + cols → t r z ≡ false) → (i y : ℕ) → r ≤ i → y < cols → (r + 1 ≤ i → t i y ≡ false) → Dec (i ≡ r) → t i y ≡ false
       above row i y p h rest (yes d) = ap (λ (j : ℕ). t j y) d ∙ row y (omega arith) (omega arith)
       above row i y p h rest (no d) = rest (omega arith)

@@ -58,7 +58,7 @@ module _ (L : Landing) where
   is-frame g f n bs dots spare =
       ext-getD 0 f (frameOf L g) (n ∙ sym (length-frame g))
       (λ b p. is-pack (shade g b) 8 (getD f b 0) (bs b) (λ i q. at b i (omega arith) q (L .used b i) refl)
-        ∙ sym (getD-table (λ b. pack (shade g b) 8) (L .size) b 0 (omega arith)))
+      ∙ sym (getD-table (λ b. pack (shade g b) 8) (L .size) b 0 (omega arith)))
     where
       at : (b i : ℕ) → b < L .size → i < 8 → (u : Bool) → L .used b i ≡ u → bit (getD f b 0) i ≡ shade g b i
       at b i p q true e =
@@ -81,6 +81,9 @@ module _ (L : Landing) where
           ∙ e (L .rowAt b i) (L .colAt b i) (L .row-in b i p q u) (L .col-in b i p q u)
           ∙ ap₂ (λ (x y : ℕ). bit (getD h x 0) y) (L .byte-back b i p q u) (L .bit-back b i p q u)
 
+  pub length-put : (f : List ℕ) (r x v : ℕ) → length (put L f r x v) ≡ length f
+  length-put f r x v = length-set f (L .byteAt r x) (bitOr (getD f (L .byteAt r x) 0) (v * 2 ^ L .bitAt r x))
+
   module _ (f : List ℕ) (r x v : ℕ) (n : length f ≡ L .size) (p : r < L .rows) (q : x < L .cols) (h : v < 2) where
     new : ℕ
     new = bitOr (getD f (L .byteAt r x) 0) (v * 2 ^ L .bitAt r x)
@@ -88,10 +91,6 @@ module _ (L : Landing) where
     at-byte : getD (put L f r x v) (L .byteAt r x) 0 ≡ new
     unfolding new
     at-byte = getD-set-same f (L .byteAt r x) new 0 (omega (arith, L .in-size r x p q))
-
-    pub length-put : length (put L f r x v) ≡ length f
-    unfolding new
-    length-put = length-set f (L .byteAt r x) new
 
     -- a dot that is put
     pub put-same : dot L (put L f r x v) r x ≡ max (dot L f r x) v
@@ -115,14 +114,15 @@ module _ (L : Landing) where
     pub put-other : (s y : ℕ) → s < L .rows → y < L .cols → ((s ≡ r) × (y ≡ x) → ⊥) → dot L (put L f r x v) s y ≡ dot L f s y
     put-other s y p' q' ne =
         put-bit (L .byteAt s y) (L .bitAt s y)
-        (λ e. ne
-          (sym (L .row-back s y p' q') ∙ ap₂ (L .rowAt) (e .0) (e .1) ∙ L .row-back r x p q,
-           sym (L .col-back s y p' q') ∙ ap₂ (L .colAt) (e .0) (e .1) ∙ L .col-back r x p q))
+        (λ e. ne (
+          sym (L .row-back s y p' q') ∙ ap₂ (L .rowAt) (e .0) (e .1) ∙ L .row-back r x p q,
+          sym (L .col-back s y p' q') ∙ ap₂ (L .colAt) (e .0) (e .1) ∙ L .col-back r x p q,
+        ))
 
     pub put-spare : (b i : ℕ) → L .used b i ≡ false → bit (getD (put L f r x v) b 0) i ≡ bit (getD f b 0) i
     put-spare b i u =
         put-bit b i (λ e. let z : true ≡ false = sym (L .in-use r x p q) ∙ sym (ap₂ (L .used) (e .0) (e .1)) ∙ u in
-          let z' : _≡_ {A = ℕ} 1 0 = ap one z in omega arith)
+        let z' : _≡_ {A = ℕ} 1 0 = ap one z in omega arith)
 
     pub put-bytes : Bytes f → Bytes (put L f r x v)
     unfolding new
@@ -131,6 +131,7 @@ module _ (L : Landing) where
         small : new < 256
         small = or-lt 8 (getD f (L .byteAt r x) 0) (v * 2 ^ L .bitAt r x) (bs (L .byteAt r x))
             (lt-of-lt-of-le (shl-lt 1 (L .bitAt r x) h) (pow-mono {j = 8} (omega (arith, L .in-byte r x p q))))
+
         go : Dec (j ≡ L .byteAt r x) → getD (put L f r x v) j 0 < 256
         go (yes e) = subst (λ (a : ℕ). a < 256) (sym (ap (λ (i : ℕ). getD (put L f r x v) i 0) e ∙ at-byte)) small
         go (no d) = subst (λ (a : ℕ). a < 256) (sym (getD-set-other f (L .byteAt r x) j new 0 d)) (bs j)

@@ -10,3 +10,4 @@ pub mod Cells
 pub mod CellsLaws
 pub mod First
 pub mod FirstLaws
+pub mod TallyLaws

@@ -39,7 +39,8 @@ pub fill-step : (h : ℕ → ℕ) (n : ℕ) (l : List ℕ) (i a : ℕ) → Fille
 fill-step h n l i a F p e = record {
   within = omega arith;
   long = length-set l i a ∙ F .long;
-  at = (λ k q. go k q (ℕ-discrete k i)) }
+  at = (λ k q. go k q (ℕ-discrete k i));
+}
   where
     go : (k : ℕ) → k < i + 1 → Dec (k ≡ i) → getD (set l i a) k 0 ≡ h k
     go k q (yes d) = ap (λ (j : ℕ). getD (set l i a) j 0) d ∙ getD-set-same l i a 0 (omega (arith, F .long)) ∙ e ∙ ap h (sym d)

@@ -1,0 +1,93 @@
+-- After p cells the frame is p steps on, and `lit` what they lit added up.
+use Prim.Native.Nat.{ℕ, _+_, _*_, _-_, _<_}
+use mathlib.Core.Path.{_≡_, _∙_}
+use mathlib.Core.Bool.{Bool}
+use mathlib.Core.List.{List}
+use native.Mathlib.Omega.{arith}
+use borrow.Author.Needs.{needs}
+use denote.Ref.{now}
+use Rattle.dots.specs.Cells.{Lights, block, blockSum}
+use Rattle.dots.specs.TallyLaws.{Through, through-start, through-next, through-end, through-long, through-few, length-block}
+use Rattle.chip.specs.declared.sheet.Sheet.{Sheet}
+use Rattle.picture.specs.Pattern.{tall, wide, patternsOf}
+use Rattle.picture.specs.Frame.{across, glass}
+use Rattle.picture.specs.Shown.{PutsCell, shownOf, lineDot}
+use Rattle.picture.specs.ShownLaws.{few-cell}
+use Rattle.picture.proofs.paint.put_line.Statement.{statement}
+use Rattle.picture.proofs.paint.put_line.Tie as tie
+
+abbrev step : Sheet → List ℕ → Bool → ℕ → List ℕ → List ℕ
+step sheet font dark p = block glass tall wide (lineDot sheet font dark p) 0 (p * wide)
+
+abbrev value : Sheet → List ℕ → Bool → ℕ → ℕ
+value sheet font dark p = blockSum tall wide (lineDot sheet font dark p)
+
+more : (s : Sheet) (font : List ℕ) (dark : Bool) (f₀ f f' rows : List ℕ) (lit m p : ℕ) → Through (step s font dark) (value s font dark) across f₀ f lit p
+    → p < across → rows ≡ shownOf s font dark p → PutsCell rows 0 (p * wide) f f' m
+    → Through (step s font dark) (value s font dark) across f₀ f' (lit + m) (p + 1)
+more s font dark f₀ f f' rows lit m p T h e S = through-next _ _ _ _ _ _ _ _ _ T h (rw e at S)
+
+abbrev Inv-loop : tie.InvT-loop
+Inv-loop frame₀ sheet font dark own lit₀ p₀ frame lit p = Through (step sheet font dark) (value sheet font dark) across frame₀ frame lit p × (own ≡ patternsOf (sheet .pattern))
+
+abbrev μ-loop : tie.MeasureT-loop
+μ-loop frame₀ sheet font dark own lit₀ p₀ frame lit p = across - p
+
+patterns-requires : tie.Need-patterns-requires Inv-loop μ-loop
+patterns-requires c κs = search needs
+
+loop-holds : tie.Need-loop-holds Inv-loop μ-loop
+loop-holds c = (through-start _ _ _ _, c .patterns .ensures)
+
+shown-requires : tie.Need-shown-requires Inv-loop μ-loop
+shown-requires c κs = search needs
+
+mul-put-cell : tie.Need-mul-put-cell Inv-loop μ-loop
+mul-put-cell c = search needs
+
+put-cell-requires : tie.Need-put-cell-requires Inv-loop μ-loop
+put-cell-requires c κs =
+    let l = c .before .before .before .loop in
+    (through-long _ _ _ _ (λ p f. length-block glass tall wide _ _ _ f) _ _ _ (l .inv .0) ∙ c .before .before .before .before .before .before .before .before .pre .0, omega arith, omega arith)
+
+add-lit : tie.Need-add-lit Inv-loop μ-loop
+add-lit c =
+    let a = c .before .before .before .before .before .before .before .before .before .before .before .args in
+    let l = c .before .before .before .before .before .before .loop in
+    omega (arith, through-few _ _ _ _ (tall * wide) (λ p. few-cell (shownOf (a .sheet) (now (a .font)) (a .dark) p)) _ _ _ (more (a .sheet) (now (a .font)) (a .dark) _ _ _ _ _ _ _ (l .inv .0) (omega arith) (c .before .before .before .before .shown .ensures) (c .before .before .put-cell .ensures)))
+
+add-p : tie.Need-add-p Inv-loop μ-loop
+add-p c = search needs
+
+loop-less : tie.Need-loop-less Inv-loop μ-loop
+loop-less c = search needs
+
+loop-again : tie.Need-loop-again Inv-loop μ-loop
+loop-again c =
+    let a = c .before .before .before .before .before .before .before .before .before .before .before .args in
+    let l = c .before .before .before .before .before .before .loop in
+    (more (a .sheet) (now (a .font)) (a .dark) _ _ _ _ _ _ _ (l .inv .0) (omega arith) (c .before .before .before .before .shown .ensures) (c .before .before .put-cell .ensures), l .inv .1)
+
+same-length : tie.Need-same-length Inv-loop μ-loop
+same-length c = through-long _ _ _ _ (λ p f. length-block glass tall wide _ _ _ f) _ _ _ (c .before .loop .inv .0)
+
+returns : tie.Need-returns Inv-loop μ-loop
+returns c = through-end _ _ _ _ _ _ _ (c .before .loop .inv .0) (omega arith)
+
+pub put-line-spec : {M : Type 1} → statement M
+put-line-spec =
+    tie.close
+    (tie.spec
+    Inv-loop
+    μ-loop
+    patterns-requires
+    loop-holds
+    shown-requires
+    mul-put-cell
+    put-cell-requires
+    add-lit
+    add-p
+    loop-less
+    loop-again
+    same-length
+    returns)

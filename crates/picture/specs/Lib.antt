@@ -1,0 +1,9 @@
+pub mod Pattern
+pub mod Cursor
+pub mod Frame
+pub mod Picture
+pub mod Shown
+pub mod Paint
+pub mod Compare
+pub mod ShownLaws
+pub mod PaintLaws

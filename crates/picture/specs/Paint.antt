@@ -1,0 +1,46 @@
+-- What a painting answers and the frame it leaves (document 01, "The picture", "Answer numbers").
+use Prim.Native.Nat.{ℕ}
+use mathlib.Core.Path.{_≡_}
+use mathlib.Core.Bool.{Bool, not}
+use mathlib.Core.List.{List}
+use mathlib.Core.Option.{Option, none, some}
+use lib.Dec.{eqb}
+use lib.ListN.{length}
+use Rattle.laws.specs.Pick.{pick}
+use Rattle.dots.specs.Landing.{frameOf, countOf}
+use Rattle.mirror.specs.Panel.{soundPanel}
+use Rattle.mirror.specs.declared.panel.Panel.{Panel}
+use Rattle.picture.specs.Pattern.{fontSize}
+use Rattle.picture.specs.Frame.{glass}
+use Rattle.picture.specs.Picture.{lit}
+use Rattle.picture.specs.declared.paint.Painted.{Painted}
+use Rattle.picture.specs.declared.paint.Painted.the-variants.{Lit, Size, Unsound}
+
+-- this paper's number of an answer, none where nothing was refused, and its lit dots
+pub record Paper : Type 0 where
+  pub number : Option ℕ
+  pub dots : ℕ
+
+abbrev pub paper : Painted → Paper
+paper (Lit n) = record { number = none; dots = n }
+paper Size = record { number = some 9; dots = 0 }
+paper Unsound = record { number = some 10; dots = 0 }
+
+-- 10 before 9; otherwise how many dots are lit
+abbrev pub paintedOf : Panel → List ℕ → Bool → List ℕ → Painted
+paintedOf panel font dark frame =
+    pick (not (soundPanel panel)) Unsound
+    (pick (not (eqb (length font) fontSize)) Size
+    (pick (not (eqb (length frame) (glass .size))) Size (Lit (countOf glass (lit (panel .sheet) font dark)))))
+
+-- a refused painting leaves every byte as it was; otherwise the lit dots are 1 and all other bits 0
+abbrev pub frameAfter : Panel → List ℕ → Bool → List ℕ → List ℕ
+frameAfter panel font dark frame =
+    pick (not (soundPanel panel)) frame
+    (pick (not (eqb (length font) fontSize)) frame
+    (pick (not (eqb (length frame) (glass .size))) frame (frameOf glass (lit (panel .sheet) font dark))))
+
+-- all that a painting says and does
+pub record Paints (panel : Panel) (font : List ℕ) (dark : Bool) (before : List ℕ) (answer : Painted) (after : List ℕ) : Type 0 where
+  pub told : answer ≡ paintedOf panel font dark before
+  pub left : after ≡ frameAfter panel font dark before

@@ -1,0 +1,62 @@
+-- The cells painted on a blank frame are the frame of the lit dots, and what was lit is their number.
+use Prim.Native.Nat.{ℕ, _+_, _*_, _<_}
+use mathlib.Core.Path.{_≡_, refl, sym, ap, _∙_}
+use mathlib.Core.Bool.{Bool, true, false, not}
+use mathlib.Core.List.{List}
+use native.Mathlib.Omega.{arith}
+use borrow.Author.Tests.{eq-eqb, ne-eqb}
+use lib.ListN.{length, replicate}
+use Rattle.dots.specs.Bit.{one}
+use Rattle.dots.specs.Landing.{frameOf, countOf}
+use Rattle.dots.specs.Cells.{Lights, line, lineSum}
+use Rattle.dots.specs.CellsLaws.{page-frame, page-count, one-line, one-line-sum}
+use Rattle.chip.specs.declared.sheet.Sheet.{Sheet}
+use Rattle.mirror.specs.Panel.{soundPanel}
+use Rattle.mirror.specs.declared.panel.Panel.{Panel}
+use Rattle.picture.specs.Pattern.{tall, wide, fontSize}
+use Rattle.picture.specs.Frame.{lines, across, glass}
+use Rattle.picture.specs.Picture.{lit}
+use Rattle.picture.specs.Shown.{PutsLine, lineDot}
+use Rattle.picture.specs.ShownLaws.{shown-lit}
+use Rattle.picture.specs.Paint.{Paints}
+use Rattle.picture.specs.declared.paint.Painted.the-variants.{Lit, Size, Unsound}
+
+module _ (s : Sheet) (font : List ℕ) (dark : Bool) where
+  dots : (l p i c : ℕ) → l < lines → p < across → i < tall → c < wide
+      → lineDot s font dark p i c ≡ one (lit s font dark (l * tall + i) (p * wide + c))
+  dots l p i c hl hp hi hc =
+      let first : i ≡ l * tall + i = omega arith in
+      shown-lit s font dark p i c hi hc ∙ ap (λ (r : ℕ). one (lit s font dark r (p * wide + c))) first
+
+  pub line-frame : (f after : List ℕ) (n : ℕ) → f ≡ replicate (glass .size) 0 → PutsLine s font dark f after n → after ≡ frameOf glass (lit s font dark)
+  line-frame f after n e P =
+      P .frame ∙ ap (line glass tall wide across (lineDot s font dark) 0) e
+      ∙ sym (one-line glass tall wide across (λ l. lineDot s font dark) (replicate (glass .size) 0))
+      ∙ page-frame glass (lit s font dark) tall wide across lines refl refl (λ l. lineDot s font dark) dots
+
+  pub line-count : (f after : List ℕ) (n : ℕ) → PutsLine s font dark f after n → n ≡ countOf glass (lit s font dark)
+  line-count f after n P =
+      P .tally ∙ sym (one-line-sum glass tall wide across (λ l. lineDot s font dark))
+      ∙ page-count glass (lit s font dark) tall wide across lines refl refl (λ l. lineDot s font dark) dots
+
+-- the ways out of a painting
+module _ (panel : Panel) (font : List ℕ) (dark : Bool) (frame : List ℕ) where
+  pub paints-unsound : not (soundPanel panel) ≡ true → Paints panel font dark frame Unsound frame
+  paints-unsound u = record { told = rw u; left = rw u }
+
+  pub paints-font : not (soundPanel panel) ≡ false → (length font ≡ fontSize → ⊥) → Paints panel font dark frame Size frame
+  paints-font u f = record { told = rw (u, ne-eqb (length font) fontSize f); left = rw (u, ne-eqb (length font) fontSize f) }
+
+  module _ (u : not (soundPanel panel) ≡ false) (f : length font ≡ fontSize) where
+    pub paints-size : (length frame ≡ glass .size → ⊥) → Paints panel font dark frame Size frame
+    paints-size g = record {
+      told = rw (u, eq-eqb (length font) fontSize f, ne-eqb (length frame) (glass .size) g);
+      left = rw (u, eq-eqb (length font) fontSize f, ne-eqb (length frame) (glass .size) g);
+    }
+
+    pub paints-line : length frame ≡ glass .size → (blank after : List ℕ) (n : ℕ) → blank ≡ replicate (glass .size) 0
+        → PutsLine (panel .sheet) font dark blank after n → Paints panel font dark frame (Lit n) after
+    paints-line g blank after n e P = record {
+      told = rw (u, eq-eqb (length font) fontSize f, eq-eqb (length frame) (glass .size) g) (ap Lit (line-count (panel .sheet) font dark blank after n P));
+      left = rw (u, eq-eqb (length font) fontSize f, eq-eqb (length frame) (glass .size) g) (line-frame (panel .sheet) font dark blank after n e P);
+    }

@@ -1,0 +1,60 @@
+// The frame: 8 rows of 80 dots, and where each of them lands.
+ghost use mathlib.Core.Path.{_≡_};
+ghost use Prim.Native.Nat.{_<_};
+ghost use lib.ListN.{length, replicate};
+ghost use Rattle.dots.specs.Landing.{dot, put};
+ghost use Rattle.picture.specs.Frame.{Lands, glass};
+
+pub const ROWS: usize = 8;
+
+pub const COLUMNS: usize = 80;
+
+pub const ROW_BYTES: usize = 10;
+
+pub const FRAME_SIZE: usize = 80;
+
+pub struct Place {
+    pub byte: usize,
+    pub bit: usize,
+}
+
+// Where a dot lands.
+pub(crate) fn landing(row: usize, column: usize) -> Place
+    requires { ⌜ (row < glass .rows) × (column < glass .cols) ⌝ }
+    ensures { λ r. ⌜ Lands row column r ⌝ }
+{
+    Place {
+        byte: row * ROW_BYTES + column / 8,
+        bit: 7 - column % 8,
+    }
+}
+
+// One dot of a frame, 0 or 1.
+pub(crate) fn dot_at(frame: &[u8], row: usize, column: usize) -> u8
+    requires { ⌜ (length (now frame) ≡ glass .size) × (row < glass .rows) × (column < glass .cols) ⌝ }
+    ensures { λ r. ⌜ r ≡ dot glass (now (frame .entry)) row column ⌝ }
+{
+    let p = landing(row, column);
+    let i = p.byte;
+    (frame[i] >> p.bit) & 1
+}
+
+// Lights one dot where v is 1.
+pub(crate) fn put_dot(frame: &mut [u8], row: usize, column: usize, v: u8)
+    requires { ⌜ (length (now frame) ≡ glass .size) × (row < glass .rows) × (column < glass .cols) × (v < 2) ⌝ }
+    ensures { λ _. ⌜ now (frame .exit) ≡ put glass (now (frame .entry)) row column v ⌝ }
+{
+    let p = landing(row, column);
+    let i = p.byte;
+    frame[i] = frame[i] | (v << p.bit);
+}
+
+// Every bit 0.
+pub(crate) fn clear(frame: &mut [u8])
+    requires { ⌜ length (now frame) ≡ glass .size ⌝ }
+    ensures { λ _. ⌜ now (frame .exit) ≡ replicate (glass .size) 0 ⌝ }
+{
+    for i in 0..FRAME_SIZE {
+        frame[i] = 0;
+    }
+}

@@ -1,0 +1,6 @@
+// The picture of a panel: patterns as arrays, where a dot lands, the painter and the comparison.
+pub mod compare;
+pub mod cursor;
+pub mod frame;
+pub mod paint;
+pub mod pattern;

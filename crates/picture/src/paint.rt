@@ -1,0 +1,138 @@
+// The painter. It goes by cells and tallies dot by dot as it paints.
+ghost use mathlib.Core.Path.{_≡_};
+ghost use Prim.Native.Nat.{_+_, _≤_, _<_};
+ghost use lib.ListN.{length};
+ghost use Rattle.picture.specs.Pattern.{tall, wide, fontSize, patternsOf};
+ghost use Rattle.picture.specs.Frame.{across, glass};
+ghost use Rattle.picture.specs.Shown.{PutsCell, PutsLine, PutsRow, shapeFrom, shownOf};
+ghost use Rattle.picture.specs.Paint.{Paints};
+use crate::cursor::position;
+use crate::frame::FRAME_SIZE;
+use crate::frame::clear;
+use crate::frame::put_dot;
+use crate::pattern::FONT_SIZE;
+use crate::pattern::FONT_START;
+use crate::pattern::PATTERNS;
+use crate::pattern::TALL;
+use crate::pattern::WIDE;
+use crate::pattern::glyph;
+use crate::pattern::patterns;
+use chip::address::DISPLAY_SIZE;
+use chip::address::DisplayAddress;
+use chip::sheet::Sheet;
+use mirror::panel::Panel;
+
+const CURSOR_ROW: usize = 7;
+
+pub enum Painted {
+    // How many dots are lit.
+    Lit(usize),
+    // A font or a frame of another size.
+    Size,
+    // A panel that is not sound.
+    Unsound,
+}
+
+// The pattern of a code; `own` are the four of the panel.
+fn shape(own: [[u8; TALL]; PATTERNS], font: &[u8], code: u8) -> [u8; TALL]
+    requires { ⌜ length (now font) ≡ fontSize ⌝ }
+    ensures { λ r. ⌜ r ≡ shapeFrom own (now (font .entry)) code ⌝ }
+{
+    if code < FONT_START {
+        let n = code as usize % PATTERNS;
+        own[n]
+    } else {
+        glyph(font, code)
+    }
+}
+
+// The rows that a position shows.
+fn shown(
+    sheet: Sheet,
+    own: [[u8; TALL]; PATTERNS],
+    font: &[u8],
+    dark: bool,
+    at: usize,
+) -> [u8; TALL]
+    requires { ⌜ (own ≡ patternsOf (sheet .pattern)) × (length (now font) ≡ fontSize) × (at < across) ⌝ }
+    ensures { λ r. ⌜ r ≡ shownOf sheet (now (font .entry)) dark at ⌝ }
+{
+    let r = sheet.registers;
+    if !r.on {
+        return [0; TALL];
+    }
+    let display = sheet.display;
+    let address = DisplayAddress(((at + r.shift as usize) % DISPLAY_SIZE) as u8);
+    let mut rows = shape(own, font, address.read(&display));
+    let a = r.address;
+    if at != position(a, r.shift) {
+        return rows;
+    }
+    if r.blink & dark {
+        return [31; TALL];
+    }
+    if r.cursor {
+        rows[CURSOR_ROW] = 31;
+    }
+    rows
+}
+
+// Paints a row of a cell, whose leftmost dot is (row, left).
+fn put_row(frame: &mut [u8], row: usize, left: usize, dots: u8) -> usize
+    requires { ⌜ (length (now frame) ≡ glass .size) × (row < glass .rows) × (left + wide ≤ glass .cols) ⌝ }
+    ensures { λ n. ⌜ PutsRow dots row left (now (frame .entry)) (now (frame .exit)) n ⌝ }
+{
+    let mut lit = 0;
+    for c in 0..WIDE {
+        let v = (dots >> (WIDE - 1 - c)) & 1;
+        put_dot(frame, row, left + c, v);
+        lit += v as usize;
+    }
+    lit
+}
+
+// Paints a cell, whose upper left dot is (top, left).
+fn put_cell(frame: &mut [u8], top: usize, left: usize, rows: [u8; TALL]) -> usize
+    requires { ⌜ (length (now frame) ≡ glass .size) × (top + tall ≤ glass .rows) × (left + wide ≤ glass .cols) ⌝ }
+    ensures { λ n. ⌜ PutsCell rows top left (now (frame .entry)) (now (frame .exit)) n ⌝ }
+{
+    let mut lit = 0;
+    for i in 0..TALL {
+        lit += put_row(frame, top + i, left, rows[i]);
+    }
+    lit
+}
+
+// Paints the line; answers how many of its dots are lit.
+fn put_line(frame: &mut [u8], sheet: Sheet, font: &[u8], dark: bool) -> usize
+    requires { ⌜ (length (now frame) ≡ glass .size) × (length (now font) ≡ fontSize) ⌝ }
+    ensures { λ n. ⌜ PutsLine sheet (now (font .entry)) dark (now (frame .entry)) (now (frame .exit)) n ⌝ }
+{
+    let memory = sheet.pattern;
+    let own = patterns(memory);
+    let mut lit = 0;
+    for p in 0..DISPLAY_SIZE {
+        let rows = shown(sheet, own, font, dark, p);
+        lit += put_cell(frame, 0, p * WIDE, rows);
+    }
+    lit
+}
+
+// Paints the panel's picture into the frame, with the blink dark or not; answers how many dots are lit. Where it refuses,
+// the frame stays as it was.
+pub fn paint(panel: Panel, font: &[u8], dark: bool, frame: &mut [u8]) -> Painted
+    ensures { λ r. ⌜ Paints panel (now (font .entry)) dark (now (frame .entry)) r (now (frame .exit)) ⌝ }
+{
+    if !panel.sound() {
+        return Painted::Unsound;
+    }
+    if font.len() != FONT_SIZE {
+        return Painted::Size;
+    }
+    if frame.len() != FRAME_SIZE {
+        return Painted::Size;
+    }
+    let sheet = panel.sheet;
+    clear(frame);
+    Painted::Lit(put_line(frame, sheet, font, dark))
+}
