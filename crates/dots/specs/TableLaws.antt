@@ -21,6 +21,15 @@ getD-table h zero i d p = absurd (not-suc-le-zero p)
 getD-table h (suc n) zero d p = refl
 getD-table h (suc n) (suc i) d p = getD-table (λ k. h (suc k)) n i d (le-of-suc-le-suc p)
 
+pub table-cong : {A : Type 0} (f g : ℕ → A) (n : ℕ) → ((i : ℕ) → i < n → f i ≡ g i) → table f n ≡ table g n
+unfolding table
+table-cong f g zero e = refl
+table-cong {A} f g (suc n) e =
+    ap₂ (λ (x : A) (t : List A). x ∷ t) (e 0 (omega arith)) (table-cong (λ i. f (suc i)) (λ i. g (suc i)) n (λ i p. e (suc i) (below p)))
+  where
+    below : {i m : ℕ} → i < m → suc i < suc m
+    below p = omega arith
+
 pub table-const : (a n : ℕ) → table (λ i. a) n ≡ replicate n a
 unfolding table
 table-const a zero = refl

@@ -1,9 +1,12 @@
 pub mod Pattern
 pub mod Cursor
+pub mod CursorLaws
 pub mod Frame
 pub mod Picture
+pub mod PictureLaws
 pub mod Shown
 pub mod Paint
 pub mod Compare
 pub mod ShownLaws
 pub mod PaintLaws
+pub mod CompareLaws

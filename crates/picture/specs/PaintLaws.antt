@@ -3,11 +3,15 @@ use Prim.Native.Nat.{ℕ, _+_, _*_, _<_}
 use mathlib.Core.Path.{_≡_, refl, sym, ap, _∙_}
 use mathlib.Core.Bool.{Bool, true, false, not}
 use mathlib.Core.List.{List}
+use mathlib.Core.Option.{Option, none, some}
 use native.Mathlib.Omega.{arith}
 use borrow.Author.Tests.{eq-eqb, ne-eqb}
+use lib.Dec.{eqb}
 use lib.ListN.{length, replicate}
+use Rattle.laws.specs.Pick.{pick}
 use Rattle.dots.specs.Bit.{one}
-use Rattle.dots.specs.Landing.{frameOf, countOf}
+use Rattle.dots.specs.Landing.{dot, frameOf, countOf}
+use Rattle.dots.specs.LandingLaws.{dot-frame}
 use Rattle.dots.specs.Cells.{Lights, line, lineSum}
 use Rattle.dots.specs.CellsLaws.{page-frame, page-count, one-line, one-line-sum}
 use Rattle.chip.specs.declared.sheet.Sheet.{Sheet}
@@ -18,7 +22,7 @@ use Rattle.picture.specs.Frame.{lines, across, glass}
 use Rattle.picture.specs.Picture.{lit}
 use Rattle.picture.specs.Shown.{PutsLine, lineDot}
 use Rattle.picture.specs.ShownLaws.{shown-lit}
-use Rattle.picture.specs.Paint.{Paints}
+use Rattle.picture.specs.Paint.{Paints, paper, paintedOf, frameAfter}
 use Rattle.picture.specs.declared.paint.Painted.the-variants.{Lit, Size, Unsound}
 
 module _ (s : Sheet) (font : List ℕ) (dark : Bool) where
@@ -60,3 +64,43 @@ module _ (panel : Panel) (font : List ℕ) (dark : Bool) (frame : List ℕ) wher
       told = rw (u, eq-eqb (length font) fontSize f, eq-eqb (length frame) (glass .size) g) (ap Lit (line-count (panel .sheet) font dark blank after n P));
       left = rw (u, eq-eqb (length font) fontSize f, eq-eqb (length frame) (glass .size) g) (line-frame (panel .sheet) font dark blank after n e P);
     }
+
+  -- the number is 10 for a panel that is not sound, then 9 for a size, and there is none otherwise
+  pub painted-number : paper (paintedOf panel font dark frame) .number
+      ≡ pick (not (soundPanel panel)) (some 10)
+        (pick (not (eqb (length font) fontSize)) (some 9) (pick (not (eqb (length frame) (glass .size))) (some 9) none))
+  painted-number = by (not (soundPanel panel)) (not (eqb (length font) fontSize)) (not (eqb (length frame) (glass .size))) _
+    where
+      by : (p q t : Bool) (n : ℕ) → paper (pick p Unsound (pick q Size (pick t Size (Lit n)))) .number ≡ pick p (some 10) (pick q (some 9) (pick t (some 9) none))
+      by true q t n = refl
+      by false true t n = refl
+      by false false true n = refl
+      by false false false n = refl
+
+  -- a refused painting reports 0 lit dots and leaves every byte as it was
+  pub refused-leaves : (n : ℕ) → paper (paintedOf panel font dark frame) .number ≡ some n
+      → (paper (paintedOf panel font dark frame) .dots ≡ 0) × (frameAfter panel font dark frame ≡ frame)
+  refused-leaves n e = by (not (soundPanel panel)) (not (eqb (length font) fontSize)) (not (eqb (length frame) (glass .size))) _ _ e
+    where
+      by : (p q t : Bool) (m : ℕ) (f : List ℕ) → paper (pick p Unsound (pick q Size (pick t Size (Lit m)))) .number ≡ some n
+          → (paper (pick p Unsound (pick q Size (pick t Size (Lit m)))) .dots ≡ 0) × (pick p frame (pick q frame (pick t frame f)) ≡ frame)
+      by true q t m f e = (refl, refl)
+      by false true t m f e = (refl, refl)
+      by false false true m f e = (refl, refl)
+      by false false false m f e = absurd (let z : _≡_ {A = ℕ} 0 1 = cc in omega arith)
+
+  -- a painting that goes well shows a dot exactly where it is lit, and its number is the number of those dots
+  pub painted-dots : paper (paintedOf panel font dark frame) .number ≡ none
+      → (paper (paintedOf panel font dark frame) .dots ≡ countOf glass (lit (panel .sheet) font dark))
+        × ((r x : ℕ) → r < glass .rows → x < glass .cols → dot glass (frameAfter panel font dark frame) r x ≡ one (lit (panel .sheet) font dark r x))
+  painted-dots e =
+      by (not (soundPanel panel)) (not (eqb (length font) fontSize)) (not (eqb (length frame) (glass .size))) _ _ (dot-frame glass (lit (panel .sheet) font dark)) e
+    where
+      Shows : List ℕ → Type 0
+      Shows f = (r x : ℕ) → r < glass .rows → x < glass .cols → dot glass f r x ≡ one (lit (panel .sheet) font dark r x)
+      by : (p q t : Bool) (m : ℕ) (f : List ℕ) → Shows f → paper (pick p Unsound (pick q Size (pick t Size (Lit m)))) .number ≡ none
+          → (paper (pick p Unsound (pick q Size (pick t Size (Lit m)))) .dots ≡ m) × Shows (pick p frame (pick q frame (pick t frame f)))
+      by true q t m f h e = absurd (let z : _≡_ {A = ℕ} 0 1 = cc in omega arith)
+      by false true t m f h e = absurd (let z : _≡_ {A = ℕ} 0 1 = cc in omega arith)
+      by false false true m f h e = absurd (let z : _≡_ {A = ℕ} 0 1 = cc in omega arith)
+      by false false false m f h e = (refl, h)

@@ -1,0 +1,98 @@
+-- What the answers of a comparison mean.
+use Prim.Native.Nat.{ℕ, _+_, _≤_, _<_}
+use mathlib.Core.Path.{_≡_, refl, subst}
+use mathlib.Core.Bool.{Bool, true, false, not}
+use mathlib.Core.List.{List}
+use mathlib.Core.Option.{Option, none, some}
+use native.Mathlib.Omega.{arith}
+use borrow.Author.Tests.{eq-eqb, not-true, not-false, eqb-true, eqb-false}
+use lib.Dec.{eqb}
+use lib.ListN.{length}
+use Rattle.laws.specs.Pick.{pick}
+use Rattle.dots.specs.Landing.{dot}
+use Rattle.dots.specs.LandingLaws.{Bytes, same-bytes}
+use Rattle.dots.specs.First.{firstDot}
+use Rattle.dots.specs.FirstLaws.{Before, first-dot-says}
+use Rattle.picture.specs.Frame.{glass}
+use Rattle.picture.specs.Compare.{paper, differ, comparedOf}
+use Rattle.picture.specs.declared.compare.Compared.{Compared}
+use Rattle.picture.specs.declared.compare.Compared.the-variants.{At, Same, Size}
+
+-- the first dot, by rows, at which the frames differ
+pub record FirstDifference (a b : List ℕ) (r x : ℕ) : Type 0 where
+  pub row-in : r < glass .rows
+  pub column-in : x < glass .cols
+  pub differs : dot glass a r x ≡ dot glass b r x → ⊥
+  pub none-before : (i y : ℕ) → y < glass .cols → Before i y r x → dot glass a i y ≡ dot glass b i y
+
+-- no dot differs
+abbrev pub SameDots : List ℕ → List ℕ → Type 0
+SameDots a b = (r x : ℕ) → r < glass .rows → x < glass .cols → dot glass a r x ≡ dot glass b r x
+
+-- what each answer to two frames of the right size means
+pub Means : List ℕ → List ℕ → Compared → Type 0
+Means a b (At r x) = FirstDifference a b r x
+Means a b Same = SameDots a b
+Means a b Size = ⊥
+
+module _ (a b : List ℕ) (la : length a ≡ glass .size) (lb : length b ≡ glass .size) where
+  sized : comparedOf a b ≡ firstDot (differ a b) At Same (glass .cols) 0 (glass .rows)
+  sized = rw (eq-eqb (length a) (glass .size) la, eq-eqb (length b) (glass .size) lb)
+
+  -- the answer is the first difference where it names a place; it says none only where every dot is equal; it is no refusal
+  pub compared-means : Means a b (comparedOf a b)
+  unfolding Means
+  compared-means =
+      rw sized
+      (first-dot-says (differ a b) At Same (glass .cols) (Means a b) 0 (glass .rows)
+      (λ r x _ p q e before. record {
+        row-in = omega arith;
+        column-in = q;
+        differs = eqb-false (dot glass a r x) (dot glass b r x) (not-true (eqb (dot glass a r x) (dot glass b r x)) e);
+        none-before = (λ i y h k. same i y (before i y (omega arith) h k)) })
+      (λ none r x p q. same r x (none r x (omega arith) (omega arith) q)))
+    where
+      same : (i y : ℕ) → differ a b i y ≡ false → dot glass a i y ≡ dot glass b i y
+      same i y e = eqb-true (dot glass a i y) (dot glass b i y) (not-false (eqb (dot glass a i y) (dot glass b i y)) e)
+
+  -- a place that is named is the first difference
+  pub at-first : (r x : ℕ) → comparedOf a b ≡ At r x → FirstDifference a b r x
+  unfolding Means
+  at-first r x e = subst (Means a b) e compared-means
+
+  -- none is said exactly where every dot is equal
+  pub same-equal : comparedOf a b ≡ Same → SameDots a b
+  unfolding Means
+  same-equal e = subst (Means a b) e compared-means
+
+  pub equal-same : SameDots a b → comparedOf a b ≡ Same
+  unfolding Means
+  equal-same e = by (comparedOf a b) compared-means
+    where
+      by : (c : Compared) → Means a b c → c ≡ Same
+      by (At r x) m = absurd (m .differs (e r x (m .row-in) (m .column-in)))
+      by Same m = refl
+      by Size m = absurd m
+
+  -- every bit of the frame is some dot's, so the frames are then the same bytes
+  pub same-frames : comparedOf a b ≡ Same → Bytes a → Bytes b → a ≡ b
+  same-frames e ba bb = same-bytes glass (λ _ _ _ _. refl) a b la lb ba bb (same-equal e)
+
+-- the number is 9 exactly where a frame has another size, and there is none otherwise
+pub compared-number : (a b : List ℕ) → paper (comparedOf a b) .number
+    ≡ pick (not (eqb (length a) (glass .size))) (some 9) (pick (not (eqb (length b) (glass .size))) (some 9) none)
+compared-number a b = by (not (eqb (length a) (glass .size))) (not (eqb (length b) (glass .size))) (firstDot (differ a b) At Same (glass .cols) 0 (glass .rows)) (first-dot-says (differ a b) At Same (glass .cols) (λ c. paper c .number ≡ none) 0 (glass .rows) (λ r x _ _ _ _ _. refl) (λ _. refl))
+  where
+    by : (p q : Bool) (c : Compared) → paper c .number ≡ none → paper (pick p Size (pick q Size c)) .number ≡ pick p (some 9) (pick q (some 9) none)
+    by true q c h = refl
+    by false true c h = refl
+    by false false c h = h
+
+-- a refused comparison names no place
+pub refused-nowhere : (c : Compared) (n : ℕ) → paper c .number ≡ some n → paper c .place ≡ none
+refused-nowhere (At r x) n e = absurd (none-some e)
+  where
+    none-some : none ≡ some n → ⊥
+    none-some e = let z : _≡_ {A = ℕ} 0 1 = cc in omega arith
+refused-nowhere Same n e = refl
+refused-nowhere Size n e = refl
