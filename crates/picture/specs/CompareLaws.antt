@@ -49,7 +49,8 @@ module _ (a b : List ℕ) (la : length a ≡ glass .size) (lb : length b ≡ gla
         row-in = omega arith;
         column-in = q;
         differs = eqb-false (dot glass a r x) (dot glass b r x) (not-true (eqb (dot glass a r x) (dot glass b r x)) e);
-        none-before = (λ i y h k. same i y (before i y (omega arith) h k)) })
+        none-before = (λ i y h k. same i y (before i y (omega arith) h k));
+      })
       (λ none r x p q. same r x (none r x (omega arith) (omega arith) q)))
     where
       same : (i y : ℕ) → differ a b i y ≡ false → dot glass a i y ≡ dot glass b i y

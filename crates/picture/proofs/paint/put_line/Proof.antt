@@ -1,4 +1,4 @@
--- After p cells the frame is p steps on, and `lit` what they lit added up.
+-- After p cells the frame is p steps on, and `total` what they lit added up.
 use Prim.Native.Nat.{ℕ, _+_, _*_, _-_, _<_}
 use mathlib.Core.Path.{_≡_, _∙_}
 use mathlib.Core.Bool.{Bool}
@@ -28,10 +28,10 @@ more : (s : Sheet) (font : List ℕ) (dark : Bool) (f₀ f f' rows : List ℕ) (
 more s font dark f₀ f f' rows lit m p T h e S = through-next _ _ _ _ _ _ _ _ _ T h (rw e at S)
 
 abbrev Inv-loop : tie.InvT-loop
-Inv-loop frame₀ sheet font dark own lit₀ p₀ frame lit p = Through (step sheet font dark) (value sheet font dark) across frame₀ frame lit p × (own ≡ patternsOf (sheet .pattern))
+Inv-loop frame₀ sheet font dark own total₀ p₀ frame total p = Through (step sheet font dark) (value sheet font dark) across frame₀ frame total p × (own ≡ patternsOf (sheet .pattern))
 
 abbrev μ-loop : tie.MeasureT-loop
-μ-loop frame₀ sheet font dark own lit₀ p₀ frame lit p = across - p
+μ-loop frame₀ sheet font dark own total₀ p₀ frame total p = across - p
 
 patterns-requires : tie.Need-patterns-requires Inv-loop μ-loop
 patterns-requires c κs = search needs
@@ -50,8 +50,8 @@ put-cell-requires c κs =
     let l = c .before .before .before .loop in
     (through-long _ _ _ _ (λ p f. length-block glass tall wide _ _ _ f) _ _ _ (l .inv .0) ∙ c .before .before .before .before .before .before .before .before .pre .0, omega arith, omega arith)
 
-add-lit : tie.Need-add-lit Inv-loop μ-loop
-add-lit c =
+add-total : tie.Need-add-total Inv-loop μ-loop
+add-total c =
     let a = c .before .before .before .before .before .before .before .before .before .before .before .args in
     let l = c .before .before .before .before .before .before .loop in
     omega (arith, through-few _ _ _ _ (tall * wide) (λ p. few-cell (shownOf (a .sheet) (now (a .font)) (a .dark) p)) _ _ _ (more (a .sheet) (now (a .font)) (a .dark) _ _ _ _ _ _ _ (l .inv .0) (omega arith) (c .before .before .before .before .shown .ensures) (c .before .before .put-cell .ensures)))
@@ -85,7 +85,7 @@ put-line-spec =
     shown-requires
     mul-put-cell
     put-cell-requires
-    add-lit
+    add-total
     add-p
     loop-less
     loop-again
