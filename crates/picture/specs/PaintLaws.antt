@@ -3,7 +3,7 @@ use Prim.Native.Nat.{ℕ, _+_, _*_, _<_}
 use mathlib.Core.Path.{_≡_, refl, sym, ap, _∙_}
 use mathlib.Core.Bool.{Bool, true, false, not}
 use mathlib.Core.List.{List}
-use mathlib.Core.Option.{Option, none, some}
+use mathlib.Core.Option.{none, some}
 use native.Mathlib.Omega.{arith}
 use borrow.Author.Tests.{eq-eqb, ne-eqb}
 use lib.Dec.{eqb}
@@ -12,7 +12,7 @@ use Rattle.laws.specs.Pick.{pick}
 use Rattle.dots.specs.Bit.{one}
 use Rattle.dots.specs.Landing.{dot, frameOf, countOf}
 use Rattle.dots.specs.LandingLaws.{dot-frame}
-use Rattle.dots.specs.Cells.{Lights, line, lineSum}
+use Rattle.dots.specs.Cells.{line}
 use Rattle.dots.specs.CellsLaws.{page-frame, page-count, one-line, one-line-sum}
 use Rattle.chip.specs.declared.sheet.Sheet.{Sheet}
 use Rattle.mirror.specs.Panel.{soundPanel}

@@ -6,7 +6,7 @@ use mathlib.Core.List.{List}
 use native.Mathlib.Omega.{arith}
 use borrow.Author.Needs.{needs}
 use denote.Ref.{now}
-use Rattle.dots.specs.Cells.{Lights, block, blockSum}
+use Rattle.dots.specs.Cells.{block, blockSum}
 use Rattle.dots.specs.TallyLaws.{Through, through-start, through-next, through-end, through-long, through-few, length-block}
 use Rattle.chip.specs.declared.sheet.Sheet.{Sheet}
 use Rattle.picture.specs.Pattern.{tall, wide, patternsOf}
