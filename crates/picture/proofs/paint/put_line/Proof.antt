@@ -22,6 +22,7 @@ step sheet font dark p = block glass tall wide (lineDot sheet font dark p) 0 (p 
 abbrev value : Sheet → List ℕ → Bool → ℕ → ℕ
 value sheet font dark p = blockSum tall wide (lineDot sheet font dark p)
 
+-- one more cell
 more : (s : Sheet) (font : List ℕ) (dark : Bool) (f₀ f f' rows : List ℕ) (lit m p : ℕ) → Through (step s font dark) (value s font dark) across f₀ f lit p
     → p < across → rows ≡ shownOf s font dark p → PutsCell rows 0 (p * wide) f f' m
     → Through (step s font dark) (value s font dark) across f₀ f' (lit + m) (p + 1)
@@ -54,7 +55,10 @@ add-total : tie.Need-add-total Inv-loop μ-loop
 add-total c =
     let a = c .before .before .before .before .before .before .before .before .before .before .before .args in
     let l = c .before .before .before .before .before .before .loop in
-    omega (arith, through-few _ _ _ _ (tall * wide) (λ p. few-cell (shownOf (a .sheet) (now (a .font)) (a .dark) p)) _ _ _ (more (a .sheet) (now (a .font)) (a .dark) _ _ _ _ _ _ _ (l .inv .0) (omega arith) (c .before .before .before .before .shown .ensures) (c .before .before .put-cell .ensures)))
+    omega
+    (arith,
+    through-few _ _ _ _ (tall * wide) (λ p. few-cell (shownOf (a .sheet) (now (a .font)) (a .dark) p)) _ _ _
+    (more (a .sheet) (now (a .font)) (a .dark) _ _ _ _ _ _ _ (l .inv .0) (omega arith) (c .before .before .before .before .shown .ensures) (c .before .before .put-cell .ensures)))
 
 add-p : tie.Need-add-p Inv-loop μ-loop
 add-p c = search needs
@@ -66,7 +70,8 @@ loop-again : tie.Need-loop-again Inv-loop μ-loop
 loop-again c =
     let a = c .before .before .before .before .before .before .before .before .before .before .before .args in
     let l = c .before .before .before .before .before .before .loop in
-    (more (a .sheet) (now (a .font)) (a .dark) _ _ _ _ _ _ _ (l .inv .0) (omega arith) (c .before .before .before .before .shown .ensures) (c .before .before .put-cell .ensures), l .inv .1)
+    (more (a .sheet) (now (a .font)) (a .dark) _ _ _ _ _ _ _ (l .inv .0) (omega arith) (c .before .before .before .before .shown .ensures) (c .before .before .put-cell .ensures),
+     l .inv .1)
 
 same-length : tie.Need-same-length Inv-loop μ-loop
 same-length c = through-long _ _ _ _ (λ p f. length-block glass tall wide _ _ _ f) _ _ _ (c .before .loop .inv .0)
