@@ -8,11 +8,10 @@ use native.Mathlib.Decide.{ℕ-discrete}
 use native.Mathlib.Omega.{arith}
 use lib.Pow.{shl-lt, pow-mono}
 use lib.Bits.{bitOr, or-lt}
-use lib.ListN.{length, getD, set, length-set}
+use lib.ListN.{length, getD, length-set}
 use lib.Seq.{getD-set-same, getD-set-other, ext-getD}
 use Rattle.dots.specs.Bit.{bit, one, pack}
 use Rattle.dots.specs.BitLaws.{one-lt, bit-pack, is-pack, same-bits, or-same, or-other}
-use Rattle.dots.specs.Table.{table}
 use Rattle.dots.specs.TableLaws.{length-table, getD-table}
 use Rattle.dots.specs.Landing.{Landing, dot, frameOf, put}
 

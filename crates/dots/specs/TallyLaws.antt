@@ -8,7 +8,7 @@ use Rattle.dots.specs.Table.{inOrder, sum}
 use Rattle.dots.specs.TableLaws.{in-order-none, in-order-more, in-order-keeps, sum-none, sum-more, sum-le}
 use Rattle.dots.specs.Landing.{Landing}
 use Rattle.dots.specs.LandingLaws.{length-put}
-use Rattle.dots.specs.Cells.{strip, block, line, Lights}
+use Rattle.dots.specs.Cells.{strip, block, Lights}
 
 -- after k of n steps from the frame f₀: the frame f, and `lit` dots lit
 pub record Through (step : ℕ → List ℕ → List ℕ) (value : ℕ → ℕ) (n : ℕ) (f₀ f : List ℕ) (lit k : ℕ) : Type 0 where

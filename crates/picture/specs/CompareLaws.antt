@@ -1,9 +1,9 @@
 -- What the answers of a comparison mean.
-use Prim.Native.Nat.{ℕ, _+_, _≤_, _<_}
+use Prim.Native.Nat.{ℕ, _<_}
 use mathlib.Core.Path.{_≡_, refl, subst}
 use mathlib.Core.Bool.{Bool, true, false, not}
 use mathlib.Core.List.{List}
-use mathlib.Core.Option.{Option, none, some}
+use mathlib.Core.Option.{none, some}
 use native.Mathlib.Omega.{arith}
 use borrow.Author.Tests.{eq-eqb, not-true, not-false, eqb-true, eqb-false}
 use lib.Dec.{eqb}
@@ -30,7 +30,7 @@ abbrev pub SameDots : List ℕ → List ℕ → Type 0
 SameDots a b = (r x : ℕ) → r < glass .rows → x < glass .cols → dot glass a r x ≡ dot glass b r x
 
 -- what each answer to two frames of the right size means
-pub Means : List ℕ → List ℕ → Compared → Type 0
+unfoldable pub Means : List ℕ → List ℕ → Compared → Type 0
 Means a b (At r x) = FirstDifference a b r x
 Means a b Same = SameDots a b
 Means a b Size = ⊥
@@ -82,7 +82,9 @@ module _ (a b : List ℕ) (la : length a ≡ glass .size) (lb : length b ≡ gla
 -- the number is 9 exactly where a frame has another size, and there is none otherwise
 pub compared-number : (a b : List ℕ) → paper (comparedOf a b) .number
     ≡ pick (not (eqb (length a) (glass .size))) (some 9) (pick (not (eqb (length b) (glass .size))) (some 9) none)
-compared-number a b = by (not (eqb (length a) (glass .size))) (not (eqb (length b) (glass .size))) (firstDot (differ a b) At Same (glass .cols) 0 (glass .rows)) (first-dot-says (differ a b) At Same (glass .cols) (λ c. paper c .number ≡ none) 0 (glass .rows) (λ r x _ _ _ _ _. refl) (λ _. refl))
+compared-number a b =
+    by (not (eqb (length a) (glass .size))) (not (eqb (length b) (glass .size))) (firstDot (differ a b) At Same (glass .cols) 0 (glass .rows))
+    (first-dot-says (differ a b) At Same (glass .cols) (λ c. paper c .number ≡ none) 0 (glass .rows) (λ _ _ _ _ _ _ _. refl) (λ _. refl))
   where
     by : (p q : Bool) (c : Compared) → paper c .number ≡ none → paper (pick p Size (pick q Size c)) .number ≡ pick p (some 9) (pick q (some 9) none)
     by true q c h = refl

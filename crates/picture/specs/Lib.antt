@@ -10,3 +10,4 @@ pub mod Compare
 pub mod ShownLaws
 pub mod PaintLaws
 pub mod CompareLaws
+pub mod PictureCases

@@ -3,7 +3,7 @@ use Prim.Native.Nat.{ℕ, _+_, _*_, _<_}
 use mathlib.Core.Path.{_≡_, refl, sym, ap, _∙_}
 use mathlib.Core.Bool.{Bool, true, false, not}
 use mathlib.Core.List.{List}
-use mathlib.Core.Option.{Option, none, some}
+use mathlib.Core.Option.{none, some}
 use native.Mathlib.Omega.{arith}
 use borrow.Author.Tests.{eq-eqb, ne-eqb}
 use lib.Dec.{eqb}
@@ -12,7 +12,7 @@ use Rattle.laws.specs.Pick.{pick}
 use Rattle.dots.specs.Bit.{one}
 use Rattle.dots.specs.Landing.{dot, frameOf, countOf}
 use Rattle.dots.specs.LandingLaws.{dot-frame}
-use Rattle.dots.specs.Cells.{Lights, line, lineSum}
+use Rattle.dots.specs.Cells.{line}
 use Rattle.dots.specs.CellsLaws.{page-frame, page-count, one-line, one-line-sum}
 use Rattle.chip.specs.declared.sheet.Sheet.{Sheet}
 use Rattle.mirror.specs.Panel.{soundPanel}
@@ -23,6 +23,7 @@ use Rattle.picture.specs.Picture.{lit}
 use Rattle.picture.specs.Shown.{PutsLine, lineDot}
 use Rattle.picture.specs.ShownLaws.{shown-lit}
 use Rattle.picture.specs.Paint.{Paints, paper, paintedOf, frameAfter}
+use Rattle.picture.specs.declared.paint.Painted.{Painted}
 use Rattle.picture.specs.declared.paint.Painted.the-variants.{Lit, Size, Unsound}
 
 module _ (s : Sheet) (font : List ℕ) (dark : Bool) where
@@ -77,31 +78,35 @@ module _ (panel : Panel) (font : List ℕ) (dark : Bool) (frame : List ℕ) wher
       by false false true n = refl
       by false false false n = refl
 
+  -- whatever holds of the two refusals, with the frame as it was, and of the painting, holds
+  pub painting-is : (P : Painted → List ℕ → Type 0) → P Unsound frame → P Size frame
+      → P (Lit (countOf glass (lit (panel .sheet) font dark))) (frameOf glass (lit (panel .sheet) font dark))
+      → P (paintedOf panel font dark frame) (frameAfter panel font dark frame)
+  painting-is P unsound size painted = by (not (soundPanel panel)) (not (eqb (length font) fontSize)) (not (eqb (length frame) (glass .size)))
+    where
+      by : (p q t : Bool)
+          → P (pick p Unsound (pick q Size (pick t Size (Lit (countOf glass (lit (panel .sheet) font dark))))))
+          (pick p frame (pick q frame (pick t frame (frameOf glass (lit (panel .sheet) font dark)))))
+      by true q t = unsound
+      by false true t = size
+      by false false true = size
+      by false false false = painted
+
   -- a refused painting reports 0 lit dots and leaves every byte as it was
   pub refused-leaves : (n : ℕ) → paper (paintedOf panel font dark frame) .number ≡ some n
       → (paper (paintedOf panel font dark frame) .dots ≡ 0) × (frameAfter panel font dark frame ≡ frame)
-  refused-leaves n e = by (not (soundPanel panel)) (not (eqb (length font) fontSize)) (not (eqb (length frame) (glass .size))) _ _ e
-    where
-      by : (p q t : Bool) (m : ℕ) (f : List ℕ) → paper (pick p Unsound (pick q Size (pick t Size (Lit m)))) .number ≡ some n
-          → (paper (pick p Unsound (pick q Size (pick t Size (Lit m)))) .dots ≡ 0) × (pick p frame (pick q frame (pick t frame f)) ≡ frame)
-      by true q t m f e = (refl, refl)
-      by false true t m f e = (refl, refl)
-      by false false true m f e = (refl, refl)
-      by false false false m f e = absurd (let z : _≡_ {A = ℕ} 0 1 = cc in omega arith)
+  refused-leaves n =
+      painting-is (λ a f. paper a .number ≡ some n → (paper a .dots ≡ 0) × (f ≡ frame)) (λ _. (refl, refl)) (λ _. (refl, refl))
+      (λ e. absurd (let z : _≡_ {A = ℕ} 0 1 = cc in omega arith))
 
-  -- a painting that goes well shows a dot exactly where it is lit, and its number is the number of those dots
+  -- a painting that goes well shows a dot exactly where it is lit, and answers the number of those dots
   pub painted-dots : paper (paintedOf panel font dark frame) .number ≡ none
       → (paper (paintedOf panel font dark frame) .dots ≡ countOf glass (lit (panel .sheet) font dark))
       × ((r x : ℕ) → r < glass .rows → x < glass .cols → dot glass (frameAfter panel font dark frame) r x ≡ one (lit (panel .sheet) font dark r x))
-  painted-dots e =
-      by (not (soundPanel panel)) (not (eqb (length font) fontSize)) (not (eqb (length frame) (glass .size))) _ _ (dot-frame glass (lit (panel .sheet) font dark)) e
-    where
-      Shows : List ℕ → Type 0
-      Shows f = (r x : ℕ) → r < glass .rows → x < glass .cols → dot glass f r x ≡ one (lit (panel .sheet) font dark r x)
-
-      by : (p q t : Bool) (m : ℕ) (f : List ℕ) → Shows f → paper (pick p Unsound (pick q Size (pick t Size (Lit m)))) .number ≡ none
-          → (paper (pick p Unsound (pick q Size (pick t Size (Lit m)))) .dots ≡ m) × Shows (pick p frame (pick q frame (pick t frame f)))
-      by true q t m f h e = absurd (let z : _≡_ {A = ℕ} 0 1 = cc in omega arith)
-      by false true t m f h e = absurd (let z : _≡_ {A = ℕ} 0 1 = cc in omega arith)
-      by false false true m f h e = absurd (let z : _≡_ {A = ℕ} 0 1 = cc in omega arith)
-      by false false false m f h e = (refl, h)
+  painted-dots =
+      painting-is
+      (λ a f. paper a .number ≡ none
+      → (paper a .dots ≡ countOf glass (lit (panel .sheet) font dark))
+      × ((r x : ℕ) → r < glass .rows → x < glass .cols → dot glass f r x ≡ one (lit (panel .sheet) font dark r x)))
+      (λ e. absurd (let z : _≡_ {A = ℕ} 0 1 = cc in omega arith)) (λ e. absurd (let z : _≡_ {A = ℕ} 0 1 = cc in omega arith))
+      (λ _. (refl, dot-frame glass (lit (panel .sheet) font dark)))

@@ -1,6 +1,6 @@
 -- What lights a dot and what does not.
 use Prim.Native.Nat.{ℕ, _-_, _/_, _%_}
-use mathlib.Core.Path.{_≡_, ap, sym, _∙_}
+use mathlib.Core.Path.{_≡_, ap, _∙_}
 use mathlib.Core.Bool.{Bool, true, false, _&&_, _||_, and-false, or-true, or-false}
 use mathlib.Core.List.{List}
 use lib.Dec.{ltb, eqb}
@@ -8,7 +8,6 @@ use lib.ListN.{getD}
 use Rattle.laws.specs.Pick.{pick}
 use Rattle.dots.specs.Bit.{bit}
 use Rattle.dots.specs.TableLaws.{table-cong}
-use Rattle.chip.specs.Address.{patternSize}
 use Rattle.chip.specs.Sheet.{withPattern}
 use Rattle.chip.specs.declared.sheet.Sheet.{Sheet}
 use Rattle.picture.specs.Pattern.{tall, wide, patterns, fontStart, patternRow, glyphRow, patternOf, glyphOf, shapeOf}

@@ -110,12 +110,12 @@ fn put_line(frame: &mut [u8], sheet: Sheet, font: &[u8], dark: bool) -> usize
 {
     let memory = sheet.pattern;
     let own = patterns(memory);
-    let mut lit = 0;
+    let mut total = 0;
     for p in 0..DISPLAY_SIZE {
         let rows = shown(sheet, own, font, dark, p);
-        lit += put_cell(frame, 0, p * WIDE, rows);
+        total += put_cell(frame, 0, p * WIDE, rows);
     }
-    lit
+    total
 }
 
 // Paints the panel's picture into the frame, with the blink dark or not; answers how many dots are lit. Where it refuses,

@@ -1,3 +1,4 @@
+-- Each way out is one law of a painting.
 use mathlib.Core.Path.{sym, ap, _∙_}
 use mathlib.Core.Bool.{not}
 use borrow.Author.Needs.{needs}
@@ -35,8 +36,12 @@ same-length c = search needs
 
 returns-4 : tie.Need-returns-4
 returns-4 c =
-    let a = c .before .before .before .before .before .before .before .before .before .before .before .before .before .before .before .args in
-    paints-line (a .panel) (now (a .font)) (a .dark) (now (a .frame)) (sym (ap not (c .before .before .before .before .before .before .before .before .before .before .before .before .sound .ensures)) ∙ c .before .before .before .before .before .before .before .before .before .before .before .if1 .left) (c .before .before .before .before .before .before .before .before .before .before .if2 .left) (c .before .before .before .before .before .before .before .before .before .if3 .left) _ _ _ (c .before .before .before .before .before .before .clear .ensures) (c .before .before .put-line .ensures)
+    let cleared = c .before .before .before .before .before .before in
+    let tests = cleared .before .before .before in
+    let a = tests .before .before .before .before .before .before .args in
+    paints-line (a .panel) (now (a .font)) (a .dark) (now (a .frame))
+    (sym (ap not (tests .before .before .before .sound .ensures)) ∙ tests .before .before .if1 .left) (tests .before .if2 .left) (tests .if3 .left)
+    _ _ _ (cleared .clear .ensures) (c .before .before .put-line .ensures)
 
 pub paint-spec : {M : Type 1} → statement M
 paint-spec =

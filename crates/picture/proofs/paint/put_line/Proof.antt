@@ -1,4 +1,4 @@
--- After p cells the frame is p steps on, and `lit` what they lit added up.
+-- After p cells the frame is p steps on, and `total` what they lit added up.
 use Prim.Native.Nat.{ℕ, _+_, _*_, _-_, _<_}
 use mathlib.Core.Path.{_≡_, _∙_}
 use mathlib.Core.Bool.{Bool}
@@ -6,7 +6,7 @@ use mathlib.Core.List.{List}
 use native.Mathlib.Omega.{arith}
 use borrow.Author.Needs.{needs}
 use denote.Ref.{now}
-use Rattle.dots.specs.Cells.{Lights, block, blockSum}
+use Rattle.dots.specs.Cells.{block, blockSum}
 use Rattle.dots.specs.TallyLaws.{Through, through-start, through-next, through-end, through-long, through-few, length-block}
 use Rattle.chip.specs.declared.sheet.Sheet.{Sheet}
 use Rattle.picture.specs.Pattern.{tall, wide, patternsOf}
@@ -22,16 +22,17 @@ step sheet font dark p = block glass tall wide (lineDot sheet font dark p) 0 (p 
 abbrev value : Sheet → List ℕ → Bool → ℕ → ℕ
 value sheet font dark p = blockSum tall wide (lineDot sheet font dark p)
 
+-- one more cell
 more : (s : Sheet) (font : List ℕ) (dark : Bool) (f₀ f f' rows : List ℕ) (lit m p : ℕ) → Through (step s font dark) (value s font dark) across f₀ f lit p
     → p < across → rows ≡ shownOf s font dark p → PutsCell rows 0 (p * wide) f f' m
     → Through (step s font dark) (value s font dark) across f₀ f' (lit + m) (p + 1)
 more s font dark f₀ f f' rows lit m p T h e S = through-next _ _ _ _ _ _ _ _ _ T h (rw e at S)
 
 abbrev Inv-loop : tie.InvT-loop
-Inv-loop frame₀ sheet font dark own lit₀ p₀ frame lit p = Through (step sheet font dark) (value sheet font dark) across frame₀ frame lit p × (own ≡ patternsOf (sheet .pattern))
+Inv-loop frame₀ sheet font dark own total₀ p₀ frame total p = Through (step sheet font dark) (value sheet font dark) across frame₀ frame total p × (own ≡ patternsOf (sheet .pattern))
 
 abbrev μ-loop : tie.MeasureT-loop
-μ-loop frame₀ sheet font dark own lit₀ p₀ frame lit p = across - p
+μ-loop frame₀ sheet font dark own total₀ p₀ frame total p = across - p
 
 patterns-requires : tie.Need-patterns-requires Inv-loop μ-loop
 patterns-requires c κs = search needs
@@ -50,11 +51,14 @@ put-cell-requires c κs =
     let l = c .before .before .before .loop in
     (through-long _ _ _ _ (λ p f. length-block glass tall wide _ _ _ f) _ _ _ (l .inv .0) ∙ c .before .before .before .before .before .before .before .before .pre .0, omega arith, omega arith)
 
-add-lit : tie.Need-add-lit Inv-loop μ-loop
-add-lit c =
+add-total : tie.Need-add-total Inv-loop μ-loop
+add-total c =
     let a = c .before .before .before .before .before .before .before .before .before .before .before .args in
     let l = c .before .before .before .before .before .before .loop in
-    omega (arith, through-few _ _ _ _ (tall * wide) (λ p. few-cell (shownOf (a .sheet) (now (a .font)) (a .dark) p)) _ _ _ (more (a .sheet) (now (a .font)) (a .dark) _ _ _ _ _ _ _ (l .inv .0) (omega arith) (c .before .before .before .before .shown .ensures) (c .before .before .put-cell .ensures)))
+    omega
+    (arith,
+    through-few _ _ _ _ (tall * wide) (λ p. few-cell (shownOf (a .sheet) (now (a .font)) (a .dark) p)) _ _ _
+    (more (a .sheet) (now (a .font)) (a .dark) _ _ _ _ _ _ _ (l .inv .0) (omega arith) (c .before .before .before .before .shown .ensures) (c .before .before .put-cell .ensures)))
 
 add-p : tie.Need-add-p Inv-loop μ-loop
 add-p c = search needs
@@ -66,7 +70,8 @@ loop-again : tie.Need-loop-again Inv-loop μ-loop
 loop-again c =
     let a = c .before .before .before .before .before .before .before .before .before .before .before .args in
     let l = c .before .before .before .before .before .before .loop in
-    (more (a .sheet) (now (a .font)) (a .dark) _ _ _ _ _ _ _ (l .inv .0) (omega arith) (c .before .before .before .before .shown .ensures) (c .before .before .put-cell .ensures), l .inv .1)
+    (more (a .sheet) (now (a .font)) (a .dark) _ _ _ _ _ _ _ (l .inv .0) (omega arith) (c .before .before .before .before .shown .ensures) (c .before .before .put-cell .ensures),
+     l .inv .1)
 
 same-length : tie.Need-same-length Inv-loop μ-loop
 same-length c = through-long _ _ _ _ (λ p f. length-block glass tall wide _ _ _ f) _ _ _ (c .before .loop .inv .0)
@@ -85,7 +90,7 @@ put-line-spec =
     shown-requires
     mul-put-cell
     put-cell-requires
-    add-lit
+    add-total
     add-p
     loop-less
     loop-again

@@ -1,15 +1,20 @@
 -- Each way out is one law of the rows shown.
 use Prim.Native.Nat.{ℕ}
-use mathlib.Core.Path.{sym, ap, _∙_}
+use mathlib.Core.Path.{_≡_, sym, ap, _∙_}
 use mathlib.Core.List.{List}
 use borrow.Author.Needs.{needs}
 use denote.Ref.{now}
 use lib.ListN.{set}
-use Rattle.picture.specs.Picture.{cursorRow}
+use Rattle.picture.specs.Picture.{cursorRow, shapeAt}
 use Rattle.picture.specs.Shown.{full}
 use Rattle.picture.specs.ShownLaws.{shape-from, shown-off, shown-away, shown-blink, shown-under, shown-bare}
 use Rattle.picture.proofs.paint.shown.Statement.{statement}
 use Rattle.picture.proofs.paint.shown.Tie as tie
+
+rows-are : (c : tie.After-position) → c .before .shape .result ≡ shapeAt (c .before .before .before .before .before .before .before .before .before .before .args .sheet) (now (c .before .before .before .before .before .before .before .before .before .before .args .font)) (c .before .before .before .before .before .before .before .before .before .before .args .at)
+rows-are c =
+    let a = c .before .before .before .before .before .before .before .before .before .before .args in
+    shape-from (a .sheet) (now (a .font)) (a .at) (a .own) _ _ (c .before .before .before .before .before .before .before .before .before .before .pre .0) (c .before .before .read .ensures) (c .before .shape .ensures)
 
 returns : tie.Need-returns
 returns c = let a = c .before .before .before .before .args in shown-off (a .sheet) (now (a .font)) (a .dark) (a .at) (c .if1 .taken)
@@ -36,8 +41,7 @@ returns-2 : tie.Need-returns-2
 returns-2 c =
     let at = c .before in
     let a = at .before .before .before .before .before .before .before .before .before .before .args in
-    let rows = shape-from (a .sheet) (now (a .font)) (a .at) (a .own) _ _ (at .before .before .before .before .before .before .before .before .before .before .pre .0) (at .before .before .read .ensures) (at .before .shape .ensures) in
-    rows ∙ shown-away (a .sheet) (now (a .font)) (a .dark) (a .at) (at .before .before .before .before .before .before .if1 .left) (λ e. c .if2 .taken (e ∙ sym (at .position .ensures)))
+    rows-are at ∙ shown-away (a .sheet) (now (a .font)) (a .dark) (a .at) (at .before .before .before .before .before .before .if1 .left) (λ e. c .if2 .taken (e ∙ sym (at .position .ensures)))
 
 returns-3 : tie.Need-returns-3
 returns-3 c =
@@ -52,15 +56,14 @@ returns-4 : tie.Need-returns-4
 returns-4 c =
     let at = c .before .before .before .before in
     let a = at .before .before .before .before .before .before .before .before .before .before .args in
-    let rows = shape-from (a .sheet) (now (a .font)) (a .at) (a .own) _ _ (at .before .before .before .before .before .before .before .before .before .before .pre .0) (at .before .before .read .ensures) (at .before .shape .ensures) in
-    ap (λ (l : List ℕ). set l cursorRow full) rows ∙ shown-under (a .sheet) (now (a .font)) (a .dark) (a .at) (at .before .before .before .before .before .before .if1 .left) (c .before .before .before .if2 .left ∙ at .position .ensures) (c .before .if3 .left) (c .if4 .taken)
+    ap (λ (l : List ℕ). set l cursorRow full) (rows-are at)
+    ∙ shown-under (a .sheet) (now (a .font)) (a .dark) (a .at) (at .before .before .before .before .before .before .if1 .left) (c .before .before .before .if2 .left ∙ at .position .ensures) (c .before .if3 .left) (c .if4 .taken)
 
 returns-5 : tie.Need-returns-5
 returns-5 c =
     let at = c .before .before .before .before in
     let a = at .before .before .before .before .before .before .before .before .before .before .args in
-    let rows = shape-from (a .sheet) (now (a .font)) (a .at) (a .own) _ _ (at .before .before .before .before .before .before .before .before .before .before .pre .0) (at .before .before .read .ensures) (at .before .shape .ensures) in
-    rows ∙ shown-bare (a .sheet) (now (a .font)) (a .dark) (a .at) (at .before .before .before .before .before .before .if1 .left) (c .before .before .before .if2 .left ∙ at .position .ensures) (c .before .if3 .left) (c .if4 .left)
+    rows-are at ∙ shown-bare (a .sheet) (now (a .font)) (a .dark) (a .at) (at .before .before .before .before .before .before .if1 .left) (c .before .before .before .if2 .left ∙ at .position .ensures) (c .before .if3 .left) (c .if4 .left)
 
 pub shown-spec : {M : Type 1} → statement M
 shown-spec =
