@@ -4,3 +4,6 @@ pub mod AnswersLaws
 pub mod Replay
 pub mod Ways
 pub mod ReplayLaws
+pub mod Striking
+pub mod MirrorLaws
+pub mod StrikingLaws

@@ -1,0 +1,51 @@
+-- Demand 3, second half, holds of our mirror.
+use Prim.Native.Nat.{ℕ}
+use mathlib.Core.Path.{_≡_, refl, sym, ap, _∙_, subst}
+use mathlib.Core.Bool.{true, false}
+use mathlib.Core.List.{List, [], _∷_, _++_, append-nil, Sublistᴰ, Sublistᴰ·slnil, Sublistᴰ·cons, Sublistᴰ·cons-cons}
+use lib.ListN.{length}
+use lib.Dec.{ltb}
+use Rattle.log.specs.FrontLaws.{Front}
+use Rattle.log.specs.Frames.{Pieces, then, piecesFrom, pieces, frames, tail, joined}
+use Rattle.log.specs.FramesLaws.{AllRecords, frames-are-records, joined-pieces}
+use Rattle.mirror.specs.Panel.{freshPanel}
+use Rattle.mirror.specs.declared.half.Half.the-variants.{Empty}
+use Rattle.mirror.specs.declared.panel.Panel.{Panel}
+use Rattle.striking.specs.Machine.{events, run, final}
+use Rattle.striking.specs.Striking.{struck, Struck}
+use Rattle.striking.specs.StrikingLaws.{striking}
+use Rattle.demands.specs.Mirrors.{ours, machineOf}
+use Rattle.demands.specs.Answers.{answersBy, panelBy}
+use Rattle.demands.specs.Striking.{keptBy, struckLog, settledPanel, StruckFrom, Strikes}
+use Rattle.demands.specs.MirrorLaws.{mirror-laws}
+
+-- some of a log's records are records
+records-some : {a b : List (List ℕ)} → Sublistᴰ a b → AllRecords b → AllRecords a
+records-some Sublistᴰ·slnil h = tt
+records-some (Sublistᴰ·cons s) h = records-some s (h .1)
+records-some (Sublistᴰ·cons-cons e s) h = (subst (λ f. Front f (length f)) (sym e) (h .0), records-some s (h .1))
+
+-- records that follow each other are read back, and nothing is left
+joined-back : (fs : List (List ℕ)) → AllRecords fs → pieces (joined fs) ≡ record { records = fs; rest = [] }
+unfolding piecesFrom
+joined-back fs h = ap pieces (sym (append-nil (joined fs))) ∙ joined-pieces fs [] h ∙ ap (λ x. record { records = x; rest = [] }) (append-nil fs)
+
+-- from any panel in which no half waits
+pub struck-from : (p : Panel) → p .half ≡ Empty → (log : List ℕ) → StruckFrom ours p log
+struck-from p n log =
+    let m = machineOf ours in
+    let s : Struck m p (frames log) = striking m mirror-laws p n (frames log) in
+    let back = joined-back (struck m p (frames log)) (records-some (s .in-order) (frames-are-records log)) in
+    let read : frames (struckLog ours p log) ≡ struck m p (frames log) = ap (λ (x : Pieces). x .records) back in
+    record {
+      records = read;
+      whole = ap (λ (x : Pieces). x .rest) back;
+      in-order = subst (λ x. Sublistᴰ x (frames log)) (sym read) (s .in-order);
+      answers = ap (run m p) read ∙ s .answers;
+      panel = ap (λ x. settledPanel (final m p x)) read ∙ s .state;
+      twice = ap (λ x. joined (struck m p x)) read ∙ ap joined (s .twice);
+    }
+
+-- DEMAND 3, SECOND HALF
+pub strike : Strikes ours
+strike reset long short log = struck-from (freshPanel reset long short) refl log
