@@ -7,3 +7,5 @@ pub mod ReplayLaws
 pub mod Striking
 pub mod MirrorLaws
 pub mod StrikingLaws
+pub mod Logs
+pub mod Naive
