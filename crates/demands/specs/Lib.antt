@@ -9,3 +9,4 @@ pub mod MirrorLaws
 pub mod StrikingLaws
 pub mod Logs
 pub mod Naive
+pub mod Cases
