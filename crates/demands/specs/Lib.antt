@@ -10,3 +10,6 @@ pub mod StrikingLaws
 pub mod Logs
 pub mod Naive
 pub mod Cases
+pub mod Rules
+pub mod RulesLaws
+pub mod Refuted
