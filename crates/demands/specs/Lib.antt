@@ -13,3 +13,7 @@ pub mod Cases
 pub mod Rules
 pub mod RulesLaws
 pub mod Refuted
+pub mod Unique
+pub mod UniqueChip
+pub mod UniqueLog
+pub mod UniqueMirror
