@@ -12,6 +12,7 @@ pub mod Naive
 pub mod Cases
 pub mod Rules
 pub mod RulesLaws
+pub mod CountsLaws
 pub mod Refuted
 pub mod Unique
 pub mod UniqueChip
