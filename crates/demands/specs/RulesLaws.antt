@@ -50,78 +50,52 @@ in-time : (p : Panel) (bytes : List ℕ) (time : ℕ) (rs wr : Bool) (bus : ℕ)
 in-time p bytes time rs wr bus f l =
     ap (λ x. answered x p) f ∙ ap (λ z. pick z (recorded p say.Back 0 14) (transferred time rs wr bus p)) (le-ltb time (p .last) l)
 
--- whether a way comes to ignored
-abbrev ignores : Way → Bool
-ignores way.Torn = false
-ignores way.Ignored = true
-ignores way.Missed = true
-ignores way.Nothing = false
-ignores way.HoldStatus = false
-ignores way.HoldRead = false
-ignores way.HoldWrite = false
-ignores way.Status = false
-ignores way.StatusEnd = false
-ignores way.Read = false
-ignores way.ReadEnd = false
-ignores way.Write = false
-ignores way.Obey = false
+module _ (time : ℕ) (r w : Bool) (bus byte : ℕ) (p : Panel) where
+  -- whether a way comes to ignored
+  abbrev ignores : Way → Bool
+  ignores v = eqb (numberOf (went v time r w bus byte p .answer)) 3
 
-went-ignores : (v : Way) (time : ℕ) (rs wr : Bool) (bus byte : ℕ) (p : Panel) → eqb (numberOf (went v time rs wr bus byte p .answer)) 3 ≡ ignores v
-went-ignores way.Torn time rs wr bus byte p = refl
-went-ignores way.Ignored time rs wr bus byte p = refl
-went-ignores way.Missed time rs wr bus byte p = refl
-went-ignores way.Nothing time rs wr bus byte p = refl
-went-ignores way.HoldStatus time rs wr bus byte p = refl
-went-ignores way.HoldRead time rs wr bus byte p = refl
-went-ignores way.HoldWrite time rs wr bus byte p = refl
-went-ignores way.Status time rs wr bus byte p = refl
-went-ignores way.StatusEnd time rs wr bus byte p = refl
-went-ignores way.Read time rs wr bus byte p = refl
-went-ignores way.ReadEnd time rs wr bus byte p = refl
-went-ignores way.Write time rs wr bus byte p = refl
-went-ignores way.Obey time rs wr bus byte p = refl
+  -- a write that is complete does not
+  finish-heard : (rs : Bool) (b : ℕ) → ignores (finishOf rs b) ≡ false
+  finish-heard true b = refl
+  finish-heard false b = by (eqb b 0)
+    where
+      by : (z : Bool) → ignores (pick z way.Nothing way.Obey) ≡ false
+      by true = refl
+      by false = refl
 
--- a write that is complete is not ignored
-finish-heard : (rs : Bool) (byte : ℕ) → ignores (finishOf rs byte) ≡ false
-finish-heard true byte = refl
-finish-heard false byte = by (eqb byte 0)
-  where
-    by : (z : Bool) → ignores (pick z way.Nothing way.Obey) ≡ false
-    by true = refl
-    by false = refl
+  whole-ignores : (z rs wr : Bool) (b : ℕ) → (rs || not wr) ≡ true → ignores (wholeOf z rs wr b) ≡ not z
+  whole-ignores true rs false b u = finish-heard rs b
+  whole-ignores false rs false b u = refl
+  whole-ignores true true true b u = refl
+  whole-ignores false true true b u = refl
+  whole-ignores z false true b u = absurd (false≢true u)
 
-whole-ignores : (z rs wr : Bool) (byte : ℕ) → (rs || not wr) ≡ true → ignores (wholeOf z rs wr byte) ≡ not z
-whole-ignores true rs false byte u = finish-heard rs byte
-whole-ignores false rs false byte u = refl
-whole-ignores true true true byte u = refl
-whole-ignores false true true byte u = refl
-whole-ignores z false true byte u = absurd (false≢true u)
+  first-ignores : (z rs wr : Bool) → (rs || not wr) ≡ true → ignores (firstOf z rs wr) ≡ not z
+  first-ignores true rs false u = refl
+  first-ignores false rs false u = refl
+  first-ignores true true true u = refl
+  first-ignores false true true u = refl
+  first-ignores z false true u = absurd (false≢true u)
 
-first-ignores : (z rs wr : Bool) → (rs || not wr) ≡ true → ignores (firstOf z rs wr) ≡ not z
-first-ignores true rs false u = refl
-first-ignores false rs false u = refl
-first-ignores true true true u = refl
-first-ignores false true true u = refl
-first-ignores z false true u = absurd (false≢true u)
+  second-heard : (rs wr : Bool) (b : ℕ) → ignores (secondOf rs wr b) ≡ false
+  second-heard rs false b = finish-heard rs b
+  second-heard true true b = refl
+  second-heard false true b = refl
 
-second-heard : (rs wr : Bool) (byte : ℕ) → ignores (secondOf rs wr byte) ≡ false
-second-heard rs false byte = finish-heard rs byte
-second-heard true true byte = refl
-second-heard false true byte = refl
+  -- a second half that matches goes its way
+  untorn : (a b : Bool) (v : Way) → (a && b) ≡ true → ignores (pick (not a) way.Torn (pick (not b) way.Torn v)) ≡ ignores v
+  untorn true true v e = refl
+  untorn true false v e = absurd (false≢true e)
+  untorn false b v e = absurd (false≢true e)
 
--- a second half that matches goes its way
-untorn : (a b : Bool) (v : Way) → (a && b) ≡ true → pick (not a) way.Torn (pick (not b) way.Torn v) ≡ v
-untorn true true v e = refl
-untorn true false v e = absurd (false≢true e)
-untorn false b v e = absurd (false≢true e)
-
-way-ignores : (eight : Bool) (h : Half) (z rs wr : Bool) (byte : ℕ) → Narrow eight h → (rs || not wr) ≡ true → matching h rs wr ≡ true →
-    ignores (wayOf eight h z rs wr byte) ≡ busyAt h z
-way-ignores true h z rs wr byte n u m = whole-ignores z rs wr byte u ∙ sym (ap (λ x. busyAt x z) (n refl))
-way-ignores false Empty z rs wr byte n u m = first-ignores z rs wr u
-way-ignores false (Ignored r w) z rs wr byte n u m = ap ignores (untorn (Bool·beq r rs) (Bool·beq w wr) way.Ignored m)
-way-ignores false (Waiting r w nibble) z rs wr byte n u m =
-    ap ignores (untorn (Bool·beq r rs) (Bool·beq w wr) (secondOf rs wr byte) m) ∙ second-heard rs wr byte
+  way-ignores : (eight : Bool) (h : Half) (z rs wr : Bool) (b : ℕ) → Narrow eight h → (rs || not wr) ≡ true → matching h rs wr ≡ true →
+      ignores (wayOf eight h z rs wr b) ≡ busyAt h z
+  way-ignores true h z rs wr b n u m = whole-ignores z rs wr b u ∙ sym (ap (λ x. busyAt x z) (n refl))
+  way-ignores false Empty z rs wr b n u m = first-ignores z rs wr u
+  way-ignores false (Ignored r₁ w₁) z rs wr b n u m = untorn (Bool·beq r₁ rs) (Bool·beq w₁ wr) way.Ignored m
+  way-ignores false (Waiting r₁ w₁ nibble) z rs wr b n u m =
+      untorn (Bool·beq r₁ rs) (Bool·beq w₁ wr) (secondOf rs wr b) m ∙ second-heard rs wr b
 
 -- DEMAND 2, THE BUSY RULE
 pub ignores-busy : IgnoresBusy ours
@@ -130,8 +104,7 @@ ignores-busy p bytes time rs wr bus s f l u m =
     let eight = p .sheet .registers .eight in
     let byte = joinedOf eight (p .half) bus in
     ap (λ (r : Recorded). eqb (numberOf (r .answer)) 3) (in-time p bytes time rs wr bus f l)
-    ∙ went-ignores (wayOf eight (p .half) (free time p) rs wr byte) time rs wr bus byte p
-    ∙ way-ignores eight (p .half) (free time p) rs wr byte (sound-narrow p s) u m
+    ∙ way-ignores time rs wr bus byte p eight (p .half) (free time p) rs wr byte (sound-narrow p s) u m
 
 -- what a whole transfer does to the sheet
 finish-sheet : (rs : Bool) (bus time : ℕ) (p : Panel) →
