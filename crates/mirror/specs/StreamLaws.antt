@@ -192,7 +192,7 @@ module _ (st : Stream) (a b : List ℕ) where
       by false o = ap (λ x. feedOf x b) (feed-open st a o) ∙ then-fed (wantsMore (tail s)) refl o
 
 -- a count that is capped is raised as the number is
-raised-capped : (n : ℕ) → raised (capped n) ≡ capped (n + 1)
+pub raised-capped : (n : ℕ) → raised (capped n) ≡ capped (n + 1)
 raised-capped n = by (ltb n mostCount) refl (ltb (n + 1) mostCount) refl
   where
     by : (b : Bool) → ltb n mostCount ≡ b → (d : Bool) → ltb (n + 1) mostCount ≡ d → raised (pick b n mostCount) ≡ pick d (n + 1) mostCount

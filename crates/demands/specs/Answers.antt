@@ -1,0 +1,21 @@
+-- The answers of a log, and the panel at its end: what every demand on a whole log is stated of.
+use Prim.Native.Nat.{ℕ}
+use mathlib.Core.List.{List, [], _∷_}
+use Rattle.log.specs.Frames.{frames}
+use Rattle.mirror.specs.Run.{tallied}
+use Rattle.mirror.specs.declared.panel.Panel.{Panel}
+use Rattle.striking.specs.Machine.{Answered, run, final}
+use Rattle.demands.specs.Mirrors.{Reply, Mirror, machineOf}
+
+-- a log's records, each with its own bytes and what it was told, one after another from a panel on
+abbrev pub answersBy : Mirror → Panel → List ℕ → List (Answered (List ℕ) Reply)
+answersBy m p log = run (machineOf m) p (frames log)
+
+-- the panel at the end
+abbrev pub panelBy : Mirror → Panel → List ℕ → Panel
+panelBy m p log = final (machineOf m) p (frames log)
+
+-- the counts of answers, raised one by one
+abbrev pub countsOf : List ℕ → List (Answered (List ℕ) Reply) → List ℕ
+countsOf counts [] = counts
+countsOf counts (a ∷ rest) = countsOf (tallied counts (a .answer .answer)) rest

@@ -1,0 +1,46 @@
+-- A mirror, whatever it does; and ours, which the contracts speak of.
+use Prim.Native.Nat.{ℕ}
+use mathlib.Core.Path.{_≡_}
+use mathlib.Core.List.{List}
+use Rattle.log.specs.Frame.{frameOf}
+use Rattle.mirror.specs.Record.{holding, answered}
+use Rattle.mirror.specs.declared.answer.Answer.{Answer}
+use Rattle.mirror.specs.declared.answer.Answer.the-variants.{Taken, Held, Status, Ignored, Torn, Back, Bad, Nothing, Cut, Unsound}
+use Rattle.mirror.specs.declared.half.Half.the-variants.{Empty}
+use Rattle.mirror.specs.declared.panel.Panel.{Panel}
+use Rattle.mirror.specs.declared.record.Recorded.{Recorded}
+use Rattle.striking.specs.Machine.{stays, goes, waits, keeps, strikes, leaves, Sort, sorted, Out, Machine}
+
+-- what a record is told: its answer and its bus byte
+pub record Reply : Type 0 where
+  pub answer : Answer
+  pub byte : ℕ
+
+-- a mirror: the panel after a record, given by its own bytes, and what it is told
+abbrev pub Mirror : Type 0
+Mirror = Panel → List ℕ → Out Panel Reply
+
+abbrev pub outOf : Recorded → Out Panel Reply
+outOf r = record { state = r .panel; answer = record { answer = r .answer; byte = r .byte } }
+
+-- ours
+abbrev pub ours : Mirror
+ours p bytes = outOf (answered (frameOf bytes) p)
+
+-- what striking does by an answer: taken stays, and its first half with it; held waits; back and bad go, and a half that waits goes on
+-- waiting; the rest go, and the first half with them. No record of a log is answered cut or unsound
+abbrev pub sortOf : Answer → Sort
+sortOf Taken = sorted stays keeps
+sortOf Held = sorted waits leaves
+sortOf Status = sorted goes strikes
+sortOf Ignored = sorted goes strikes
+sortOf Torn = sorted goes strikes
+sortOf Back = sorted goes leaves
+sortOf Bad = sorted goes leaves
+sortOf Nothing = sorted goes strikes
+sortOf Cut = sorted goes leaves
+sortOf Unsound = sorted goes leaves
+
+-- a mirror as a machine that reads the records' bytes; bare of its last time and its waiting half, a panel is all the rest
+abbrev pub machineOf : Mirror → Machine Panel (List ℕ) Reply
+machineOf m = record { step = m; sort = λ bytes r. sortOf (r .answer); bare = holding 0 Empty; Idle = λ p. p .half ≡ Empty }

@@ -1,0 +1,101 @@
+-- THE WRONG MIRRORS that document 01 lists ("These must not pass"): of each, a rule that is false, shown by a log.
+use Prim.Native.Nat.{ℕ, _+_}
+use native.Mathlib.Omega.{arith}
+use mathlib.Core.Path.{_≡_, refl, sym, ap, _∙_}
+use mathlib.Core.Bool.{Bool, true, false, false≢true}
+use mathlib.Core.List.{List, [], _∷_, _++_}
+use lib.ListN.{getD, replicate}
+use lib.Dec.{eqb}
+use Rattle.laws.specs.Pick.{pick}
+use Rattle.log.specs.Frames.{recordsOf}
+use Rattle.chip.specs.Address.{numberOf as addressNumber}
+use Rattle.chip.specs.declared.sheet.Sheet.{Sheet}
+use Rattle.mirror.specs.Answer.{numberOf}
+use Rattle.mirror.specs.Stream.{runOf}
+use Rattle.mirror.specs.declared.answer.Answer.{Answer}
+use Rattle.mirror.specs.declared.answer.Answer.the-variants as say
+use Rattle.mirror.specs.declared.panel.Panel.{Panel}
+use Rattle.mirror.specs.declared.stream.Run.{Run}
+use Rattle.striking.specs.Machine.{Out}
+use Rattle.demands.specs.Mirrors.{Reply, Mirror, ours}
+use Rattle.demands.specs.Answers.{panelBy}
+use Rattle.demands.specs.Replay.{Replays}
+use Rattle.demands.specs.Rules.{IgnoresBusy, Steps, Counter, Counts, AddsUp}
+use Rattle.demands.specs.RulesLaws.{ignores-busy}
+use Rattle.demands.specs.Logs.{answering, instructAt, writeAt, casePanel}
+
+-- ONE THAT ANSWERS THE SAME FOR ALL, whatever it does to the panel. The busy rule: 57h as data at 0 is not ignored; after Clear at 100,
+-- 57h as data at 200 is
+pub not-the-same : (m : Mirror) (a : Answer) → ((p : Panel) (bytes : List ℕ) → m p bytes .answer .answer ≡ a) → ¬ IgnoresBusy m
+unfolding answering
+not-the-same m a same h =
+    let cleared = panelBy ours casePanel (instructAt 100 0x01) in
+    let says : Answer → Bool = λ x. eqb (numberOf x) 3 in
+    let heard : eqb (numberOf a) 3 ≡ false =
+    sym (ap says (same casePanel (writeAt 0 0x57))) ∙ h casePanel (writeAt 0 0x57) 0 true false 0x57 refl refl (omega arith) refl refl in
+    let ignored : eqb (numberOf a) 3 ≡ true =
+    sym (ap says (same cleared (writeAt 200 0x57))) ∙ h cleared (writeAt 200 0x57) 200 true false 0x57 refl refl (omega arith) refl refl in
+    false≢true (sym heard ∙ ignored)
+
+abbrev pub always : Answer → Mirror
+always a p bytes = record { state = p; answer = record { answer = a; byte = 0 } }
+
+-- ONE THAT ALWAYS ANSWERS IGNORED
+pub not-always-ignored : ¬ IgnoresBusy (always say.Ignored)
+not-always-ignored = not-the-same (always say.Ignored) say.Ignored (λ p bytes. refl)
+
+-- ONE THAT ALWAYS ANSWERS BAD
+pub not-always-bad : ¬ IgnoresBusy (always say.Bad)
+not-always-bad = not-the-same (always say.Bad) say.Bad (λ p bytes. refl)
+
+-- ONE THAT NEVER CHANGES THE PANEL, whatever it answers. The steps: 57h as data at 0 is stored
+pub not-still : (m : Mirror) → ((p : Panel) (bytes : List ℕ) → m p bytes .state ≡ p) → ¬ Steps m
+unfolding answering
+not-still m same h =
+    let e : _≡_ {A = ℕ} 0x20 0x57 =
+    ap (λ (s : Sheet). getD (s .display) 0 0)
+    (sym (ap (λ (x : Panel). x .sheet) (same casePanel (writeAt 0 0x57))) ∙ h casePanel (writeAt 0 0x57) 0 true false 0x57 refl (omega arith) refl refl) in
+    omega arith
+
+-- ONE THAT OBEYS THE FIRST RECORD AND ONLY NODS AT LATER ONES: it answers as ours does, with clock and halves, and leaves the sheet. Demand 3:
+-- after 57h as data at 0 and at 40 the replay stands at address 2
+abbrev pub withSheet : Sheet → Panel → Panel
+withSheet s p = record { sheet = s; busy = p .busy; half = p .half; times = p .times; last = p .last }
+
+abbrev pub nodding : Mirror
+nodding p bytes =
+    let o = ours p bytes in
+    record { state = pick (eqb (p .busy) 0) (o .state) (withSheet (p .sheet) (o .state)); answer = o .answer }
+
+-- (the busy rule it keeps)
+pub nodding-ignores-busy : IgnoresBusy nodding
+nodding-ignores-busy = ignores-busy
+
+pub not-nodding : ¬ Replays nodding
+unfolding answering
+not-nodding h =
+    let e : _≡_ {A = ℕ} 2 1 =
+    ap (λ (s : Sheet). addressNumber (s .registers .address)) (h 10_000 1_640 40 (writeAt 0 0x57 ++ writeAt 40 0x57)) in
+    omega arith
+
+-- ONE THAT INVENTS COUNTS: a run with other counts
+abbrev pub counting : (List ℕ → List ℕ) → Counter
+counting counts p log =
+    let r = runOf p log in
+    record { panel = r .panel; counts = counts log; records = r .records; cut = r .cut; refused = r .refused }
+
+-- always the same ones: they don't add up to the number of records
+pub not-constant : (counts : List ℕ) → ¬ AddsUp (counting (λ log. counts))
+unfolding answering
+not-constant counts h =
+    let none = h casePanel [] refl (omega arith) in
+    let one = h casePanel (writeAt 0 0x57) refl (omega arith) in
+    let e : _≡_ {A = ℕ} 0 1 = sym none ∙ one in
+    omega arith
+
+-- all records as taken: they add up, and after Clear at 100 the write at 200 was ignored
+pub not-all-taken : ¬ Counts (counting (λ log. recordsOf log ∷ replicate 7 0))
+unfolding answering
+not-all-taken h =
+    let e : _≡_ {A = ℕ} 2 1 = h casePanel (instructAt 100 0x01 ++ writeAt 200 0x57) refl 0 (omega arith) in
+    omega arith

@@ -1,0 +1,101 @@
+-- Demand 3, first half: the entries answered taken, carried out on the sheet's machine, end with the sheet that the mirror ends with.
+-- What is carried out is read off the log and its answers alone.
+use Prim.Native.Nat.{ℕ, _+_, _*_, _%_, _/_}
+use mathlib.Core.Path.{_≡_}
+use mathlib.Core.Bool.{Bool, _||_}
+use mathlib.Core.List.{List, [], _∷_, _++_}
+use lib.Dec.{ltb, eqb}
+use Rattle.laws.specs.Pick.{pick}
+use Rattle.log.specs.Frame.{frameOf}
+use Rattle.log.specs.declared.frame.Frame.{Frame}
+use Rattle.log.specs.declared.frame.Frame.the-variants as frame
+use Rattle.chip.specs.Sheet.{freshSheet}
+use Rattle.chip.specs.Step.{obeyed, written, passed}
+use Rattle.chip.specs.declared.sheet.Sheet.{Sheet}
+use Rattle.mirror.specs.Answer.{numberOf}
+use Rattle.mirror.specs.Panel.{freshPanel}
+use Rattle.mirror.specs.declared.answer.Answer.{Answer}
+use Rattle.striking.specs.Machine.{Answered}
+use Rattle.demands.specs.Mirrors.{Reply, Mirror}
+use Rattle.demands.specs.Answers.{answersBy, panelBy}
+
+-- an entry for the sheet's machine, which has no clock and no half transfers
+pub data Entry : Type 0 where
+  instruct : (code : ℕ) → Entry
+  write : (byte : ℕ) → Entry
+  read reset : Entry
+
+-- carried out by the steps; a reset gives a fresh sheet
+abbrev pub carried : Entry → Sheet → Sheet
+carried (instruct code) s = obeyed code s
+carried (write byte) s = written byte s
+carried read s = passed s
+carried reset s = freshSheet
+
+-- once each, in order
+abbrev pub carriedAll : List Entry → Sheet → Sheet
+carriedAll [] s = s
+carriedAll (e ∷ rest) s = carriedAll rest (carried e s)
+
+-- a first half that was held and is not decided yet: the data that it came with
+pub data First : Type 0 where
+  none : First
+  held : (bus : ℕ) → First
+
+-- a pair of halves is one byte, of data bits 7 to 4 of each; without a first half the data is used in full
+abbrev pub joinedWith : First → ℕ → ℕ
+joinedWith none bus = bus
+joinedWith (held high) bus = high / 16 % 16 * 16 + bus / 16
+
+-- the entry of a transfer with its byte; a status read is none
+abbrev pub entryOf : Bool → Bool → ℕ → List Entry
+entryOf rs wr byte = pick wr (pick rs (read ∷ []) []) (pick rs (write byte ∷ []) (instruct byte ∷ []))
+
+-- the entry of a record, given the first half before it
+abbrev pub entryAt : First → Frame → List Entry
+entryAt first frame.Cut = []
+entryAt first (frame.Bad size) = []
+entryAt first (frame.Reset time) = reset ∷ []
+entryAt first (frame.Transfer time rs wr bus) = entryOf rs wr (joinedWith first bus)
+
+abbrev pub busOf : Frame → ℕ
+busOf frame.Cut = 0
+busOf (frame.Bad size) = 0
+busOf (frame.Reset time) = 0
+busOf (frame.Transfer time rs wr bus) = bus
+
+-- an entry is carried out where the answer is 0, taken
+abbrev pub entriesBy : Answer → First → Frame → List Entry
+entriesBy answer first f = pick (eqb (numberOf answer) 0) (entryAt first f) []
+
+-- answer 1 holds a first half; 0, 2, 3, 4 and 7 leave none; all others change nothing
+abbrev pub firstAfter : Answer → First → Frame → First
+firstAfter answer first f =
+    let n = numberOf answer in
+    pick (eqb n 1) (held (busOf f)) (pick (ltb n 5 || eqb n 7) none first)
+
+-- the entries answered taken, once each, in order, a pair of halves as one
+abbrev pub takenFrom : First → List (Answered (List ℕ) Reply) → List Entry
+takenFrom first [] = []
+takenFrom first (a ∷ rest) =
+    entriesBy (a .answer .answer) first (frameOf (a .event)) ++ takenFrom (firstAfter (a .answer .answer) first (frameOf (a .event))) rest
+
+abbrev pub takenOf : List (Answered (List ℕ) Reply) → List Entry
+takenOf answers = takenFrom none answers
+
+-- DEMAND 3, FIRST HALF, of any mirror: from a fresh panel, for any log
+abbrev pub Replays : Mirror → Type 0
+Replays m =
+    (reset long short : ℕ) (log : List ℕ) →
+    carriedAll (takenOf (answersBy m (freshPanel reset long short) log)) freshSheet ≡ panelBy m (freshPanel reset long short) log .sheet
+
+-- no entry is the instruction 00h
+abbrev pub Something : Entry → Type 0
+Something (instruct code) = ¬ (code ≡ 0)
+Something (write byte) = Unit {0}
+Something read = Unit {0}
+Something reset = Unit {0}
+
+abbrev pub AllSomething : List Entry → Type 0
+AllSomething [] = Unit {0}
+AllSomething (e ∷ rest) = Something e × AllSomething rest

@@ -1,0 +1,73 @@
+-- Rules that every mirror can be held against: demand 2's busy rule and steps, and the counts.
+use Prim.Native.Nat.{ℕ, _+_, _≤_, _<_}
+use mathlib.Core.Path.{_≡_}
+use mathlib.Core.Bool.{Bool, true, false, not, _&&_, _||_, Bool·beq}
+use mathlib.Core.List.{List, [], _∷_}
+use lib.ListN.{getD}
+use lib.Dec.{eqb}
+use Rattle.laws.specs.Pick.{pick}
+use Rattle.log.specs.Frame.{frameOf}
+use Rattle.log.specs.Frames.{recordsOf}
+use Rattle.log.specs.declared.frame.Frame.the-variants.{Transfer}
+use Rattle.mirror.specs.Answer.{numberOf}
+use Rattle.mirror.specs.Panel.{soundPanel}
+use Rattle.mirror.specs.Record.{free}
+use Rattle.mirror.specs.Run.{mostCount, capped}
+use Rattle.mirror.specs.declared.half.Half.{Half}
+use Rattle.mirror.specs.declared.half.Half.the-variants.{Empty, Ignored, Waiting}
+use Rattle.mirror.specs.declared.panel.Panel.{Panel}
+use Rattle.mirror.specs.declared.stream.Run.{Run}
+use Rattle.demands.specs.Mirrors.{Mirror, ours}
+use Rattle.demands.specs.Answers.{answersBy}
+use Rattle.demands.specs.Replay.{carriedAll, entryOf}
+use Rattle.demands.specs.Logs.{numbers}
+
+-- whole, or two matching halves: the half that waits, if any, has the same RS and R/W
+abbrev pub matching : Half → Bool → Bool → Bool
+matching Empty rs wr = true
+matching (Ignored r w) rs wr = Bool·beq r rs && Bool·beq w wr
+matching (Waiting r w nibble) rs wr = Bool·beq r rs && Bool·beq w wr
+
+-- the chip was busy as the transfer began: for a second half, as its first half came
+abbrev pub busyAt : Half → Bool → Bool
+busyAt Empty free = not free
+busyAt (Ignored r w) free = true
+busyAt (Waiting r w nibble) free = false
+
+-- DEMAND 2, THE BUSY RULE: a usable write or data read is ignored exactly when the chip was busy as it began
+abbrev pub IgnoresBusy : Mirror → Type 0
+IgnoresBusy m =
+    (p : Panel) (bytes : List ℕ) (time : ℕ) (rs wr : Bool) (bus : ℕ) →
+    soundPanel p ≡ true → frameOf bytes ≡ Transfer time rs wr bus → p .last ≤ time →
+    (rs || not wr) ≡ true → matching (p .half) rs wr ≡ true →
+    eqb (numberOf (m p bytes .answer .answer)) 3 ≡ busyAt (p .half) (free time p)
+
+-- DEMAND 2, THE STEPS: at width 8 a transfer that comes while the chip is free does to the sheet what the steps say, and nothing else
+abbrev pub Steps : Mirror → Type 0
+Steps m =
+    (p : Panel) (bytes : List ℕ) (time : ℕ) (rs wr : Bool) (bus : ℕ) →
+    frameOf bytes ≡ Transfer time rs wr bus → p .last ≤ time → p .sheet .registers .eight ≡ true → free time p ≡ true →
+    m p bytes .state .sheet ≡ carriedAll (entryOf rs wr bus) (p .sheet)
+
+-- what hands back counts: the type of a run
+abbrev pub Counter : Type 0
+Counter = Panel → List ℕ → Run
+
+-- how often a number stands in a list
+abbrev pub occurrences : ℕ → List ℕ → ℕ
+occurrences n [] = 0
+occurrences n (x ∷ rest) = pick (eqb x n) 1 0 + occurrences n rest
+
+-- COUNTS: each of the eight counts is the number of records that were answered so, as far as a count goes
+abbrev pub Counts : Counter → Type 0
+Counts run =
+    (p : Panel) (log : List ℕ) → soundPanel p ≡ true →
+    (n : ℕ) → n < 8 → getD (run p log .counts) n 0 ≡ capped (occurrences n (numbers (answersBy ours p log)))
+
+-- the eight counts together
+abbrev pub total : List ℕ → ℕ
+total c = getD c 0 0 + getD c 1 0 + getD c 2 0 + getD c 3 0 + getD c 4 0 + getD c 5 0 + getD c 6 0 + getD c 7 0
+
+-- COUNTS: they add up to the number of records
+abbrev pub AddsUp : Counter → Type 0
+AddsUp run = (p : Panel) (log : List ℕ) → soundPanel p ≡ true → recordsOf log ≤ mostCount → total (run p log .counts) ≡ recordsOf log

@@ -1,0 +1,44 @@
+-- Demand 3, second half, on the bytes of a log: without its struck records it is answered as before.
+-- Struck are the records answered 2 to 7, and the first halves of pairs answered so; the unreadable tail stays out of it.
+use Prim.Native.Nat.{ℕ}
+use mathlib.Core.Path.{_≡_}
+use mathlib.Core.List.{List, [], Sublistᴰ}
+use Rattle.log.specs.Frames.{frames, tail, joined}
+use Rattle.mirror.specs.Panel.{freshPanel}
+use Rattle.mirror.specs.Record.{holding}
+use Rattle.mirror.specs.declared.half.Half.the-variants.{Empty}
+use Rattle.mirror.specs.declared.panel.Panel.{Panel}
+use Rattle.striking.specs.Machine.{Answered, events}
+use Rattle.striking.specs.Striking.{unstruck}
+use Rattle.demands.specs.Mirrors.{Reply, Mirror, machineOf}
+use Rattle.demands.specs.Answers.{answersBy, panelBy}
+
+-- the records that stay, with what they were told: read off the log and its answers alone
+abbrev pub keptBy : Mirror → Panel → List ℕ → List (Answered (List ℕ) Reply)
+keptBy m p log = unstruck (machineOf m .sort) (answersBy m p log)
+
+-- the struck log: the bytes of these records, one after another
+abbrev pub struckLog : Mirror → Panel → List ℕ → List ℕ
+struckLog m p log = joined (events (keptBy m p log))
+
+-- all of a panel but its last time and its waiting half: the sheet, the busy end, and whatever else there is
+abbrev pub settledPanel : Panel → Panel
+settledPanel p = holding 0 Empty p
+
+-- What is claimed of striking a log that is answered from p on
+pub record StruckFrom (m : Mirror) (p : Panel) (log : List ℕ) : Type 0 where
+  -- reading the struck log gives the records that stay, and no tail
+  pub records : frames (struckLog m p log) ≡ events (keptBy m p log)
+  pub whole : tail (struckLog m p log) ≡ []
+  -- they are records of the log: none is added, changed or moved
+  pub in-order : Sublistᴰ (frames (struckLog m p log)) (frames log)
+  -- every record that stays is answered as before, with the same byte read
+  pub answers : answersBy m p (struckLog m p log) ≡ keptBy m p log
+  -- at the end the last time and the waiting half may differ; nothing else does
+  pub panel : settledPanel (panelBy m p (struckLog m p log)) ≡ settledPanel (panelBy m p log)
+  -- striking twice is striking once
+  pub twice : struckLog m p (struckLog m p log) ≡ struckLog m p log
+
+-- DEMAND 3, SECOND HALF, of any mirror: from a fresh panel, for any log
+abbrev pub Strikes : Mirror → Type 0
+Strikes m = (reset long short : ℕ) (log : List ℕ) → StruckFrom m (freshPanel reset long short) log
