@@ -55,10 +55,11 @@ add-total : tie.Need-add-total Inv-loop μ-loop
 add-total c =
     let a = c .before .before .before .before .before .before .before .before .before .before .before .args in
     let l = c .before .before .before .before .before .before .loop in
-    omega
-    (arith,
-    through-few _ _ _ _ (tall * wide) (λ p. few-cell (shownOf (a .sheet) (now (a .font)) (a .dark) p)) _ _ _
-    (more (a .sheet) (now (a .font)) (a .dark) _ _ _ _ _ _ _ (l .inv .0) (omega arith) (c .before .before .before .before .shown .ensures) (c .before .before .put-cell .ensures)))
+    omega (
+      arith,
+      through-few _ _ _ _ (tall * wide) (λ p. few-cell (shownOf (a .sheet) (now (a .font)) (a .dark) p)) _ _ _
+          (more (a .sheet) (now (a .font)) (a .dark) _ _ _ _ _ _ _ (l .inv .0) (omega arith) (c .before .before .before .before .shown .ensures) (c .before .before .put-cell .ensures)),
+    )
 
 add-p : tie.Need-add-p Inv-loop μ-loop
 add-p c = search needs
@@ -69,9 +70,10 @@ loop-less c = search needs
 loop-again : tie.Need-loop-again Inv-loop μ-loop
 loop-again c =
     let a = c .before .before .before .before .before .before .before .before .before .before .before .args in
-    let l = c .before .before .before .before .before .before .loop in
-    (more (a .sheet) (now (a .font)) (a .dark) _ _ _ _ _ _ _ (l .inv .0) (omega arith) (c .before .before .before .before .shown .ensures) (c .before .before .put-cell .ensures),
-     l .inv .1)
+    let l = c .before .before .before .before .before .before .loop in (
+      more (a .sheet) (now (a .font)) (a .dark) _ _ _ _ _ _ _ (l .inv .0) (omega arith) (c .before .before .before .before .shown .ensures) (c .before .before .put-cell .ensures),
+      l .inv .1,
+    )
 
 same-length : tie.Need-same-length Inv-loop μ-loop
 same-length c = through-long _ _ _ _ (λ p f. length-block glass tall wide _ _ _ f) _ _ _ (c .before .loop .inv .0)
