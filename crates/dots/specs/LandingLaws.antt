@@ -80,6 +80,14 @@ module _ (L : Landing) where
           ∙ e (L .rowAt b i) (L .colAt b i) (L .row-in b i p q u) (L .col-in b i p q u)
           ∙ ap₂ (λ (x y : ℕ). bit (getD h x 0) y) (L .byte-back b i p q u) (L .bit-back b i p q u)
 
+  -- no two dots share a bit
+  pub one-to-one : (r x s y : ℕ) → r < L .rows → x < L .cols → s < L .rows → y < L .cols
+      → L .byteAt r x ≡ L .byteAt s y → L .bitAt r x ≡ L .bitAt s y → (r ≡ s) × (x ≡ y)
+  one-to-one r x s y p q p' q' e d = (
+    sym (L .row-back r x p q) ∙ ap₂ (L .rowAt) e d ∙ L .row-back s y p' q',
+    sym (L .col-back r x p q) ∙ ap₂ (L .colAt) e d ∙ L .col-back s y p' q',
+  )
+
   pub length-put : (f : List ℕ) (r x v : ℕ) → length (put L f r x v) ≡ length f
   length-put f r x v = length-set f (L .byteAt r x) (bitOr (getD f (L .byteAt r x) 0) (v * 2 ^ L .bitAt r x))
 
@@ -112,11 +120,7 @@ module _ (L : Landing) where
     -- every other dot, and every bit that is no dot's
     pub put-other : (s y : ℕ) → s < L .rows → y < L .cols → ((s ≡ r) × (y ≡ x) → ⊥) → dot L (put L f r x v) s y ≡ dot L f s y
     put-other s y p' q' ne =
-        put-bit (L .byteAt s y) (L .bitAt s y)
-        (λ e. ne (
-          sym (L .row-back s y p' q') ∙ ap₂ (L .rowAt) (e .0) (e .1) ∙ L .row-back r x p q,
-          sym (L .col-back s y p' q') ∙ ap₂ (L .colAt) (e .0) (e .1) ∙ L .col-back r x p q,
-        ))
+        put-bit (L .byteAt s y) (L .bitAt s y) (λ e. ne (one-to-one s y r x p' q' p q (e .0) (e .1)))
 
     pub put-spare : (b i : ℕ) → L .used b i ≡ false → bit (getD (put L f r x v) b 0) i ≡ bit (getD f b 0) i
     put-spare b i u =

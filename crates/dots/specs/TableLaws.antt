@@ -120,14 +120,6 @@ pub in-order-more : {A : Type 0} (step : ℕ → A → A) (n : ℕ) (a : A) → 
 unfolding inOrder
 in-order-more step n a = rw add-one
 
--- the same steps come to the same
-pub in-order-cong : {A : Type 0} (s t : ℕ → A → A) (n : ℕ) (a : A) → ((i : ℕ) → i < n → (x : A) → s i x ≡ t i x)
-    → inOrder s n a ≡ inOrder t n a
-unfolding inOrder
-in-order-cong s t zero a e = refl
-in-order-cong s t (suc n) a e =
-    e n (omega arith) (inOrder s n a) ∙ ap (t n) (in-order-cong s t n a (λ i p. e i (omega arith)))
-
 -- what each step keeps, all of them keep
 pub in-order-keeps : {A : Type 0} (Q : A → Type 0) (step : ℕ → A → A) (n : ℕ)
     → ((m : ℕ) → m < n → (a : A) → Q a → Q (step m a)) → (a : A) → Q a → Q (inOrder step n a)
