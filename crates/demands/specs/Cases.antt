@@ -11,12 +11,16 @@ use Rattle.mirror.specs.Answer.{numberOf}
 use Rattle.mirror.specs.Stream.{runOf}
 use Rattle.mirror.specs.declared.half.Half.{Half}
 use Rattle.mirror.specs.declared.half.Half.the-variants.{Empty}
+use Rattle.dots.specs.Table as rows
+use Rattle.picture.specs.Pattern.{fontSize}
+use Rattle.picture.specs.Picture.{shapeAt}
 use Rattle.striking.specs.Machine.{Answered}
 use Rattle.demands.specs.Mirrors.{Reply, ours}
 use Rattle.demands.specs.Answers.{answersBy}
 use Rattle.demands.specs.Logs.{answering, instructAt, writeAt, statusAt, casePanel}
 
--- what is to be seen of a log: each answer's number with its bus byte, and of the panel at the end its address, shift, memories and half
+-- what is to be seen of a log: each answer's number with its bus byte, and of the panel at the end its address, shift, memories and half,
+-- and the eight rows that screen position 0 shows with a blank font
 pub record Seen : Type 0 where
   pub answers : List (ℕ × ℕ)
   pub address : Address
@@ -24,6 +28,7 @@ pub record Seen : Type 0 where
   pub codes : List ℕ
   pub patterns : List ℕ
   pub half : Half
+  pub shape : List ℕ
 
 abbrev told : List (Answered (List ℕ) Reply) → List (ℕ × ℕ)
 told [] = []
@@ -39,6 +44,7 @@ seenOf log =
       codes = p .sheet .display;
       patterns = p .sheet .pattern;
       half = p .half;
+      shape = shapeAt (p .sheet) (replicate fontSize 0) 0;
     }
 
 -- a log, and what is to be seen of it
@@ -53,9 +59,16 @@ blank n = replicate n 0x20
 abbrev clear : ℕ → List ℕ
 clear n = replicate n 0
 
+abbrev shows : List ℕ → List (ℕ × ℕ) → Address → ℕ → List ℕ → List ℕ → List ℕ → Case
+shows log answers address shift codes patterns shape =
+    record {
+      log = log;
+      seen = record { answers = answers; address = address; shift = shift; codes = codes; patterns = patterns; half = Empty; shape = shape };
+    }
+
+-- the same where position 0 shows a code of the blank font
 abbrev sees : List ℕ → List (ℕ × ℕ) → Address → ℕ → List ℕ → List ℕ → Case
-sees log answers address shift codes patterns =
-    record { log = log; seen = record { answers = answers; address = address; shift = shift; codes = codes; patterns = patterns; half = Empty } }
+sees log answers address shift codes patterns = shows log answers address shift codes patterns (clear 8)
 
 -- a log; number and byte of each answer; address; shift; display memory; pattern memory. In no row a half waits at the end
 abbrev pub table : List Case
@@ -79,7 +92,9 @@ table =
     ∷ sees (instructAt 0 0x5f ++ writeAt 40 0xff) ((0, 0) ∷ (0, 0) ∷ []) (Pattern (pattern 0)) 0 (blank 16) (clear 31 ++ (0x1f ∷ []))
     -- I: 07h, then a write: address 1, shift 1
     ∷ sees (instructAt 0 0x07 ++ writeAt 40 0x57) ((0, 0) ∷ (0, 0) ∷ []) (Display (display 1)) 1 (0x57 ∷ blank 15) (clear 32)
-    -- J needs the picture
+    -- J: code 08h shows pattern 0, here of the rows 15h and 0Ah
+    ∷ shows (instructAt 0 0x40 ++ writeAt 40 0x15 ++ writeAt 80 0x0a ++ instructAt 120 0x80 ++ writeAt 160 0x08)
+    ((0, 0) ∷ (0, 0) ∷ (0, 0) ∷ (0, 0) ∷ (0, 0) ∷ []) (Display (display 1)) 0 (0x08 ∷ blank 15) (0x15 ∷ 0x0a ∷ clear 30) (0x15 ∷ 0x0a ∷ clear 6)
     -- K: 00h: none; a write at the same time is taken
     ∷ sees (instructAt 0 0x00 ++ writeAt 0 0x57) ((7, 0) ∷ (0, 0) ∷ []) (Display (display 1)) 0 (0x57 ∷ blank 15) (clear 32)
     ∷ []
@@ -90,8 +105,8 @@ Hold [] = Unit {0}
 Hold (c ∷ rest) = (seenOf (c .log) ≡ c .seen) × Hold rest
 
 pub cases : Hold table
-unfolding answering
-cases = (refl, (refl, (refl, (refl, (refl, (refl, (refl, (refl, (refl, (refl, tt))))))))))
+unfolding answering rows.table
+cases = (refl, (refl, (refl, (refl, (refl, (refl, (refl, (refl, (refl, (refl, (refl, tt)))))))))))
 
 -- Beside the table: a record's bytes as document 01 writes them
 pub clear-bytes : instructAt 100 0x01 ≡ 0x0c ∷ 0 ∷ 0x01 ∷ 0 ∷ 0x64 ∷ 0 ∷ 0 ∷ 0 ∷ 0 ∷ 0 ∷ 0 ∷ 0 ∷ 0 ∷ 0x01 ∷ []

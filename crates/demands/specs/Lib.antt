@@ -18,3 +18,4 @@ pub mod Unique
 pub mod UniqueChip
 pub mod UniqueLog
 pub mod UniqueMirror
+pub mod UniquePicture
