@@ -19,3 +19,4 @@ pub mod UniqueChip
 pub mod UniqueLog
 pub mod UniqueMirror
 pub mod UniquePicture
+pub mod RefutedPicture
