@@ -1,5 +1,5 @@
 -- THE WRONG MIRRORS that document 01 lists ("These must not pass"): of each, a rule that is false, shown by a log.
-use Prim.Native.Nat.{ℕ, _+_}
+use Prim.Native.Nat.{ℕ}
 use native.Mathlib.Omega.{arith}
 use mathlib.Core.Path.{_≡_, refl, sym, ap, _∙_}
 use mathlib.Core.Bool.{Bool, true, false, false≢true}
@@ -15,9 +15,7 @@ use Rattle.mirror.specs.Stream.{runOf}
 use Rattle.mirror.specs.declared.answer.Answer.{Answer}
 use Rattle.mirror.specs.declared.answer.Answer.the-variants as say
 use Rattle.mirror.specs.declared.panel.Panel.{Panel}
-use Rattle.mirror.specs.declared.stream.Run.{Run}
-use Rattle.striking.specs.Machine.{Out}
-use Rattle.demands.specs.Mirrors.{Reply, Mirror, ours}
+use Rattle.demands.specs.Mirrors.{Mirror, ours}
 use Rattle.demands.specs.Answers.{panelBy}
 use Rattle.demands.specs.Replay.{Replays}
 use Rattle.demands.specs.Rules.{IgnoresBusy, Steps, Counter, Counts, AddsUp}

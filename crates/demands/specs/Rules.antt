@@ -18,9 +18,8 @@ use Rattle.mirror.specs.declared.half.Half.the-variants.{Empty, Ignored, Waitin
 use Rattle.mirror.specs.declared.panel.Panel.{Panel}
 use Rattle.mirror.specs.declared.stream.Run.{Run}
 use Rattle.demands.specs.Mirrors.{Mirror, ours}
-use Rattle.demands.specs.Answers.{answersBy}
+use Rattle.demands.specs.Answers.{answersBy, numbers}
 use Rattle.demands.specs.Replay.{carriedAll, entryOf}
-use Rattle.demands.specs.Logs.{numbers}
 
 -- whole, or two matching halves: the half that waits, if any, has the same RS and R/W
 abbrev pub matching : Half → Bool → Bool → Bool

@@ -1,13 +1,12 @@
 -- Our mirror keeps the busy rule and the steps.
 use Prim.Native.Nat.{ℕ, _+_, _≤_}
 use mathlib.Core.Path.{_≡_, refl, sym, ap, _∙_}
-use mathlib.Core.Bool.{Bool, true, false, not, _&&_, _||_, Bool·beq, true≢false, false≢true}
+use mathlib.Core.Bool.{Bool, true, false, not, _&&_, _||_, Bool·beq, false≢true}
 use mathlib.Core.List.{List}
 use lib.Dec.{ltb, leb, eqb}
 use borrow.Author.Tests.{le-ltb, eqb-true}
 use Rattle.laws.specs.Pick.{pick}
 use Rattle.log.specs.Frame.{frameOf}
-use Rattle.log.specs.declared.frame.Frame.{Frame}
 use Rattle.log.specs.declared.frame.Frame.the-variants.{Transfer}
 use Rattle.chip.specs.Sound.{soundSheet}
 use Rattle.chip.specs.Step.{obeyed}
