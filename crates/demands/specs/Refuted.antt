@@ -52,7 +52,7 @@ unfolding answering
 not-still m same h =
     let e : _≡_ {A = ℕ} 0x20 0x57 =
     ap (λ (s : Sheet). getD (s .display) 0 0)
-    (sym (ap (λ (x : Panel). x .sheet) (same casePanel (writeAt 0 0x57))) ∙ h casePanel (writeAt 0 0x57) 0 true false 0x57 refl (omega arith) refl refl) in
+    (sym (ap (λ (x : Panel). x .sheet) (same casePanel (writeAt 0 0x57))) ∙ h casePanel (writeAt 0 0x57) 0 true false 0x57 refl refl (omega arith)) in
     omega arith
 
 -- ONE THAT OBEYS THE FIRST RECORD AND ONLY NODS AT LATER ONES: it answers as ours does, with clock and halves, and leaves the sheet. Demand 3:
