@@ -55,8 +55,8 @@ not-still m same h =
     (sym (ap (λ (x : Panel). x .sheet) (same casePanel (writeAt 0 0x57))) ∙ h casePanel (writeAt 0 0x57) 0 true false 0x57 refl refl (omega arith)) in
     omega arith
 
--- ONE THAT OBEYS THE FIRST RECORD AND ONLY NODS AT LATER ONES: it answers as ours does, with clock and halves, and leaves the sheet. Demand 3:
--- after 57h as data at 0 and at 40 the replay stands at address 2
+-- ONE THAT OBEYS THE FIRST RECORD AND ONLY NODS AT LATER ONES: once its busy end is set it answers as ours does, with clock and halves, and
+-- leaves the sheet. Demand 3: after 57h as data at 0 and at 40 the replay stands at address 2
 abbrev pub withSheet : Sheet → Panel → Panel
 withSheet s p = record { sheet = s; busy = p .busy; half = p .half; times = p .times; last = p .last }
 
