@@ -2,6 +2,7 @@
 use Prim.Native.Nat.{ℕ}
 use mathlib.Core.List.{List, [], _∷_}
 use Rattle.log.specs.Frames.{frames}
+use Rattle.mirror.specs.Answer.{numberOf}
 use Rattle.mirror.specs.Run.{tallied}
 use Rattle.mirror.specs.declared.panel.Panel.{Panel}
 use Rattle.striking.specs.Machine.{Answered, run, final}
@@ -19,3 +20,8 @@ panelBy m p log = final (machineOf m) p (frames log)
 abbrev pub countsOf : List ℕ → List (Answered (List ℕ) Reply) → List ℕ
 countsOf counts [] = counts
 countsOf counts (a ∷ rest) = countsOf (tallied counts (a .answer .answer)) rest
+
+-- the answers' numbers
+abbrev pub numbers : List (Answered (List ℕ) Reply) → List ℕ
+numbers [] = []
+numbers (a ∷ rest) = numberOf (a .answer .answer) ∷ numbers rest

@@ -30,10 +30,9 @@ use Rattle.mirror.specs.declared.way.Way.{Way}
 use Rattle.mirror.specs.declared.way.Way.the-variants as way
 use Rattle.striking.specs.Machine.{Answered, run}
 use Rattle.demands.specs.Mirrors.{Reply, ours, machineOf}
-use Rattle.demands.specs.Answers.{answersBy, countsOf}
+use Rattle.demands.specs.Answers.{answersBy, countsOf, numbers}
 use Rattle.demands.specs.AnswersLaws.{of-run}
-use Rattle.demands.specs.Logs.{numbers}
-use Rattle.demands.specs.Rules.{occurrences, Counts, total, AddsUp}
+use Rattle.demands.specs.Rules.{occurrences, Counts, AddsUp}
 
 -- EACH COUNT. One answer more
 tally-length : (counts : List ℕ) (a : Answer) → length (tallied counts a) ≡ length counts

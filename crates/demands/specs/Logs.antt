@@ -1,17 +1,14 @@
--- Logs to compute with: the bytes of records, and what is to be seen of their answers.
-use Prim.Native.Nat.{ℕ, _+_, _%_, _/_}
+-- Logs to compute with: the bytes of records.
+use Prim.Native.Nat.{ℕ, _%_, _/_}
 use mathlib.Core.List.{List, [], _∷_, _++_}
 use Rattle.log.specs.Frame.{num16, num64, cutAt, badAt, frameOf}
 use Rattle.log.specs.Frames.{piecesFrom}
 use Rattle.chip.specs.Sound.{patternFits}
-use Rattle.mirror.specs.Answer.{numberOf}
 use Rattle.mirror.specs.Panel.{freshPanel}
 use Rattle.mirror.specs.Record.{transferred}
 use Rattle.mirror.specs.Run.{tallied, onward}
 use Rattle.mirror.specs.Stream.{runOf}
 use Rattle.mirror.specs.declared.panel.Panel.{Panel}
-use Rattle.striking.specs.Machine.{Answered}
-use Rattle.demands.specs.Mirrors.{Reply}
 
 -- what computes when a log is answered
 unfoldable pub answering : ℕ
@@ -49,8 +46,3 @@ badRecord = 2 ∷ 0 ∷ 3 ∷ 0 ∷ []
 -- the times of the cases
 abbrev pub casePanel : Panel
 casePanel = freshPanel 10_000 1_640 40
-
--- the answers' numbers
-abbrev pub numbers : List (Answered (List ℕ) Reply) → List ℕ
-numbers [] = []
-numbers (a ∷ rest) = numberOf (a .answer .answer) ∷ numbers rest

@@ -18,10 +18,10 @@ use Rattle.mirror.specs.declared.panel.Panel.{Panel}
 use Rattle.striking.specs.Machine.{stays, goes, leaves, Sort, sorted, Answered, events}
 use Rattle.striking.specs.Striking.{settled, remains, unstruck}
 use Rattle.demands.specs.Mirrors.{Reply, ours, sortOf}
-use Rattle.demands.specs.Answers.{answersBy, panelBy}
+use Rattle.demands.specs.Answers.{answersBy, panelBy, numbers}
 use Rattle.demands.specs.Replay.{carriedAll, takenOf}
 use Rattle.demands.specs.Striking.{struckLog, StruckFrom}
-use Rattle.demands.specs.Logs.{answering, instructAt, writeAt, statusAt, badRecord, casePanel, numbers}
+use Rattle.demands.specs.Logs.{answering, instructAt, writeAt, statusAt, badRecord, casePanel}
 
 -- that a way to strike leaves the answers of what stays as they were
 abbrev AsBefore : (List (Answered (List ℕ) Reply) → List (Answered (List ℕ) Reply)) → Type 0

@@ -1,5 +1,5 @@
 -- THE WRONG MIRRORS that document 01 lists ("These must not pass"): of each, a rule that is false, shown by a log.
-use Prim.Native.Nat.{ℕ, _+_}
+use Prim.Native.Nat.{ℕ}
 use native.Mathlib.Omega.{arith}
 use mathlib.Core.Path.{_≡_, refl, sym, ap, _∙_}
 use mathlib.Core.Bool.{Bool, true, false, false≢true}
@@ -15,9 +15,7 @@ use Rattle.mirror.specs.Stream.{runOf}
 use Rattle.mirror.specs.declared.answer.Answer.{Answer}
 use Rattle.mirror.specs.declared.answer.Answer.the-variants as say
 use Rattle.mirror.specs.declared.panel.Panel.{Panel}
-use Rattle.mirror.specs.declared.stream.Run.{Run}
-use Rattle.striking.specs.Machine.{Out}
-use Rattle.demands.specs.Mirrors.{Reply, Mirror, ours}
+use Rattle.demands.specs.Mirrors.{Mirror, ours}
 use Rattle.demands.specs.Answers.{panelBy}
 use Rattle.demands.specs.Replay.{Replays}
 use Rattle.demands.specs.Rules.{IgnoresBusy, Steps, Counter, Counts, AddsUp}
@@ -54,11 +52,11 @@ unfolding answering
 not-still m same h =
     let e : _≡_ {A = ℕ} 0x20 0x57 =
     ap (λ (s : Sheet). getD (s .display) 0 0)
-    (sym (ap (λ (x : Panel). x .sheet) (same casePanel (writeAt 0 0x57))) ∙ h casePanel (writeAt 0 0x57) 0 true false 0x57 refl (omega arith) refl refl) in
+    (sym (ap (λ (x : Panel). x .sheet) (same casePanel (writeAt 0 0x57))) ∙ h casePanel (writeAt 0 0x57) 0 true false 0x57 refl refl (omega arith)) in
     omega arith
 
--- ONE THAT OBEYS THE FIRST RECORD AND ONLY NODS AT LATER ONES: it answers as ours does, with clock and halves, and leaves the sheet. Demand 3:
--- after 57h as data at 0 and at 40 the replay stands at address 2
+-- ONE THAT OBEYS THE FIRST RECORD AND ONLY NODS AT LATER ONES: once its busy end is set it answers as ours does, with clock and halves, and
+-- leaves the sheet. Demand 3: after 57h as data at 0 and at 40 the replay stands at address 2
 abbrev pub withSheet : Sheet → Panel → Panel
 withSheet s p = record { sheet = s; busy = p .busy; half = p .half; times = p .times; last = p .last }
 

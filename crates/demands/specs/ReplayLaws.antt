@@ -1,6 +1,6 @@
 -- Demand 3, first half, holds of our mirror.
 use Prim.Native.Nat.{ℕ, _+_, _*_, _%_, _/_}
-use mathlib.Core.Path.{_≡_, refl, sym, ap, _∙_}
+use mathlib.Core.Path.{_≡_, refl, sym, ap, _∙_, subst}
 use mathlib.Core.Bool.{Bool, true, false, true≢false}
 use mathlib.Core.List.{List, [], _∷_, _++_}
 use Rattle.log.specs.Frame.{frameOf}
@@ -10,7 +10,7 @@ use Rattle.log.specs.declared.frame.Frame.the-variants as frame
 use Rattle.chip.specs.Sheet.{freshSheet}
 use Rattle.chip.specs.Sound.{patternFits}
 use Rattle.chip.specs.declared.sheet.Sheet.{Sheet}
-use Rattle.mirror.specs.Panel.{freshPanel, soundPanel}
+use Rattle.mirror.specs.Panel.{freshPanel}
 use Rattle.mirror.specs.Way.{joinedOf}
 use Rattle.mirror.specs.Record.{answered}
 use Rattle.mirror.specs.Stream.{runOf}
@@ -20,7 +20,7 @@ use Rattle.mirror.specs.declared.panel.Panel.{Panel}
 use Rattle.mirror.specs.declared.record.Recorded.{Recorded}
 use Rattle.striking.specs.Machine.{run, final}
 use Rattle.demands.specs.Mirrors.{ours, machineOf}
-use Rattle.demands.specs.Answers.{answersBy}
+use Rattle.demands.specs.Answers.{answersBy, panelBy}
 use Rattle.demands.specs.AnswersLaws.{of-run}
 use Rattle.demands.specs.Replay.{Entry, carried, carriedAll, First, none, held, joinedWith, entryOf, entriesBy, firstAfter, takenFrom, takenOf, Replays, AllSomething}
 use Rattle.demands.specs.Ways.{status, ignored, torn, nothing, back, bad, cut, Narrow, Fits, Goes, acts, drops, misses, begins, Came, stands, restarts, transfers, came}
@@ -102,12 +102,18 @@ replayed (bytes ∷ fs) first p g =
       something = something-append (entriesBy (r .answer) first f) later (k .something) (rest .something);
     }
 
-from-fresh : (reset long short : ℕ) (log : List ℕ) → Replayed none (freshPanel reset long short) (frames log)
-from-fresh reset long short log = replayed (frames log) none (freshPanel reset long short) (no-half true)
+from-idle : (p : Panel) → p .half ≡ Empty → (log : List ℕ) → Replayed none p (frames log)
+from-idle p n log =
+    let eight = p .sheet .registers .eight in
+    replayed (frames log) none p (subst (Agree none eight) (sym n) (no-half eight))
+
+-- from any panel in which no half waits
+pub replay-from : (p : Panel) → p .half ≡ Empty → (log : List ℕ) → carriedAll (takenOf (answersBy ours p log)) (p .sheet) ≡ panelBy ours p log .sheet
+replay-from p n log = from-idle p n log .sheet
 
 -- DEMAND 3, FIRST HALF
 pub replay : Replays ours
-replay reset long short log = from-fresh reset long short log .sheet
+replay reset long short log = replay-from (freshPanel reset long short) refl log
 
 -- and so of a run: both memories, address, shift and settings
 pub replay-run : (reset long short : ℕ) (log : List ℕ) →
@@ -118,4 +124,4 @@ replay-run reset long short log =
 
 -- 00h is never carried out
 pub replay-something : (reset long short : ℕ) (log : List ℕ) → AllSomething (takenOf (answersBy ours (freshPanel reset long short) log))
-replay-something reset long short log = from-fresh reset long short log .something
+replay-something reset long short log = from-idle (freshPanel reset long short) refl log .something

@@ -11,6 +11,7 @@ use Rattle.log.specs.Frames.{recordsOf}
 use Rattle.log.specs.declared.frame.Frame.the-variants.{Transfer}
 use Rattle.mirror.specs.Answer.{numberOf}
 use Rattle.mirror.specs.Panel.{soundPanel}
+use Rattle.mirror.specs.Way.{joinedOf}
 use Rattle.mirror.specs.Record.{free}
 use Rattle.mirror.specs.Run.{mostCount, capped}
 use Rattle.mirror.specs.declared.half.Half.{Half}
@@ -18,9 +19,8 @@ use Rattle.mirror.specs.declared.half.Half.the-variants.{Empty, Ignored, Waitin
 use Rattle.mirror.specs.declared.panel.Panel.{Panel}
 use Rattle.mirror.specs.declared.stream.Run.{Run}
 use Rattle.demands.specs.Mirrors.{Mirror, ours}
-use Rattle.demands.specs.Answers.{answersBy}
-use Rattle.demands.specs.Replay.{carriedAll, entryOf}
-use Rattle.demands.specs.Logs.{numbers}
+use Rattle.demands.specs.Answers.{answersBy, numbers}
+use Rattle.demands.specs.Replay.{Entry, carriedAll, entryOf}
 
 -- whole, or two matching halves: the half that waits, if any, has the same RS and R/W
 abbrev pub matching : Half → Bool → Bool → Bool
@@ -42,12 +42,22 @@ IgnoresBusy m =
     (rs || not wr) ≡ true → matching (p .half) rs wr ≡ true →
     eqb (numberOf (m p bytes .answer .answer)) 3 ≡ busyAt (p .half) (free time p)
 
--- DEMAND 2, THE STEPS: at width 8 a transfer that comes while the chip is free does to the sheet what the steps say, and nothing else
+-- a transfer is complete: whole at width 8, and at width 4 the second half of a pair
+abbrev pub complete : Bool → Half → Bool
+complete eight Empty = eight
+complete eight (Ignored r w) = true
+complete eight (Waiting r w nibble) = true
+
+-- what a transfer has to do to the sheet: its entry where it is complete, matches and was not begun while busy, and else nothing
+abbrev pub entriesAt : Bool → Half → Bool → Bool → Bool → ℕ → List Entry
+entriesAt eight h free rs wr bus = pick (not (busyAt h free) && complete eight h && matching h rs wr) (entryOf rs wr (joinedOf eight h bus)) []
+
+-- DEMAND 2, THE STEPS: each transfer does to the sheet what the steps say, and nothing else
 abbrev pub Steps : Mirror → Type 0
 Steps m =
     (p : Panel) (bytes : List ℕ) (time : ℕ) (rs wr : Bool) (bus : ℕ) →
-    frameOf bytes ≡ Transfer time rs wr bus → p .last ≤ time → p .sheet .registers .eight ≡ true → free time p ≡ true →
-    m p bytes .state .sheet ≡ carriedAll (entryOf rs wr bus) (p .sheet)
+    soundPanel p ≡ true → frameOf bytes ≡ Transfer time rs wr bus → p .last ≤ time →
+    m p bytes .state .sheet ≡ carriedAll (entriesAt (p .sheet .registers .eight) (p .half) (free time p) rs wr bus) (p .sheet)
 
 -- what hands back counts: the type of a run
 abbrev pub Counter : Type 0

@@ -1,16 +1,16 @@
 -- Our mirror keeps the busy rule and the steps.
 use Prim.Native.Nat.{ℕ, _+_, _≤_}
-use mathlib.Core.Path.{_≡_, refl, sym, ap, _∙_}
-use mathlib.Core.Bool.{Bool, true, false, not, _&&_, _||_, Bool·beq, true≢false, false≢true}
-use mathlib.Core.List.{List}
+use mathlib.Core.Path.{_≡_, refl, sym, ap, _∙_, subst}
+use mathlib.Core.Bool.{Bool, true, false, not, _&&_, _||_, Bool·beq, false≢true}
+use mathlib.Core.List.{List, []}
 use lib.Dec.{ltb, leb, eqb}
 use borrow.Author.Tests.{le-ltb, eqb-true}
 use Rattle.laws.specs.Pick.{pick}
 use Rattle.log.specs.Frame.{frameOf}
-use Rattle.log.specs.declared.frame.Frame.{Frame}
 use Rattle.log.specs.declared.frame.Frame.the-variants.{Transfer}
 use Rattle.chip.specs.Sound.{soundSheet}
 use Rattle.chip.specs.Step.{obeyed}
+use Rattle.chip.specs.declared.sheet.Sheet.{Sheet}
 use Rattle.mirror.specs.Answer.{numberOf}
 use Rattle.mirror.specs.Panel.{timeEnd, halfFits, soundPanel}
 use Rattle.mirror.specs.Way.{joinedOf, finishOf, wholeOf, firstOf, secondOf, wayOf}
@@ -23,8 +23,8 @@ use Rattle.mirror.specs.declared.record.Recorded.{Recorded}
 use Rattle.mirror.specs.declared.way.Way.{Way}
 use Rattle.mirror.specs.declared.way.Way.the-variants as way
 use Rattle.demands.specs.Mirrors.{ours}
-use Rattle.demands.specs.Replay.{carriedAll, entryOf}
-use Rattle.demands.specs.Rules.{matching, busyAt, IgnoresBusy, Steps}
+use Rattle.demands.specs.Replay.{Entry, carriedAll, entryOf}
+use Rattle.demands.specs.Rules.{matching, busyAt, entriesAt, IgnoresBusy, Steps}
 use Rattle.demands.specs.Ways.{Narrow}
 
 -- no half waits at width 8 in a sound panel
@@ -106,28 +106,66 @@ ignores-busy p bytes time rs wr bus s f l u m =
     ap (λ (r : Recorded). eqb (numberOf (r .answer)) 3) (in-time p bytes time rs wr bus f l)
     ∙ way-ignores time rs wr bus byte p eight (p .half) (free time p) rs wr byte (sound-narrow p s) u m
 
--- what a whole transfer does to the sheet
-finish-sheet : (rs : Bool) (bus time : ℕ) (p : Panel) →
-    went (finishOf rs bus) time rs false bus bus p .panel .sheet ≡ carriedAll (entryOf rs false bus) (p .sheet)
-finish-sheet true bus time p = refl
-finish-sheet false bus time p = by (eqb bus 0) refl
-  where
-    by : (z : Bool) → eqb bus 0 ≡ z → went (pick z way.Nothing way.Obey) time false false bus bus p .panel .sheet ≡ obeyed bus (p .sheet)
-    by true e = sym (ap (λ n. obeyed n (p .sheet)) (eqb-true bus 0 e))
-    by false e = refl
+module _ (time : ℕ) (r w : Bool) (bus byte : ℕ) (p : Panel) where
+  -- the sheet that a way comes to
+  abbrev sheetBy : Way → Sheet
+  sheetBy v = went v time r w bus byte p .panel .sheet
 
-way-sheet : (eight : Bool) (h : Half) (z rs wr : Bool) (bus time : ℕ) (p : Panel) → eight ≡ true → z ≡ true →
-    let byte = joinedOf eight h bus in
-    went (wayOf eight h z rs wr byte) time rs wr bus byte p .panel .sheet ≡ carriedAll (entryOf rs wr bus) (p .sheet)
-way-sheet false h z rs wr bus time p e f = absurd (false≢true e)
-way-sheet true h false rs wr bus time p e f = absurd (false≢true f)
-way-sheet true h true rs false bus time p e f = finish-sheet rs bus time p
-way-sheet true h true true true bus time p e f = refl
-way-sheet true h true false true bus time p e f = refl
+  finish-sheet : (rs : Bool) → sheetBy (finishOf rs byte) ≡ carriedAll (entryOf rs false byte) (p .sheet)
+  finish-sheet true = refl
+  finish-sheet false = by (eqb byte 0) refl
+    where
+      by : (z : Bool) → eqb byte 0 ≡ z → sheetBy (pick z way.Nothing way.Obey) ≡ obeyed byte (p .sheet)
+      by true e = sym (ap (λ n. obeyed n (p .sheet)) (eqb-true byte 0 e))
+      by false e = refl
+
+  whole-sheet : (z rs wr : Bool) → sheetBy (wholeOf z rs wr byte) ≡ carriedAll (entriesAt true Empty z rs wr byte) (p .sheet)
+  whole-sheet true rs false = finish-sheet rs
+  whole-sheet true true true = refl
+  whole-sheet true false true = refl
+  whole-sheet false rs false = refl
+  whole-sheet false true true = refl
+  whole-sheet false false true = refl
+
+  first-sheet : (z rs wr : Bool) → sheetBy (firstOf z rs wr) ≡ carriedAll (entriesAt false Empty z rs wr bus) (p .sheet)
+  first-sheet true rs false = refl
+  first-sheet true true true = refl
+  first-sheet true false true = refl
+  first-sheet false rs false = refl
+  first-sheet false true true = refl
+  first-sheet false false true = refl
+
+  second-sheet : (rs wr : Bool) → sheetBy (secondOf rs wr byte) ≡ carriedAll (entryOf rs wr byte) (p .sheet)
+  second-sheet rs false = finish-sheet rs
+  second-sheet true true = refl
+  second-sheet false true = refl
+
+  torn-sheet : (a b : Bool) (v : Way) (es : List Entry) → sheetBy v ≡ carriedAll es (p .sheet) →
+      sheetBy (pick (not a) way.Torn (pick (not b) way.Torn v)) ≡ carriedAll (pick (a && b) es []) (p .sheet)
+  torn-sheet true true v es h = h
+  torn-sheet true false v es h = refl
+  torn-sheet false b v es h = refl
+
+ignored-sheet : (a b : Bool) (time : ℕ) (r w : Bool) (bus byte : ℕ) (p : Panel) →
+    sheetBy time r w bus byte p (pick (not a) way.Torn (pick (not b) way.Torn way.Ignored)) ≡ p .sheet
+ignored-sheet true true time r w bus byte p = refl
+ignored-sheet true false time r w bus byte p = refl
+ignored-sheet false b time r w bus byte p = refl
+
+way-sheet : (eight : Bool) (h : Half) (z rs wr : Bool) (time bus : ℕ) (p : Panel) → Narrow eight h →
+    sheetBy time rs wr bus (joinedOf eight h bus) p (wayOf eight h z rs wr (joinedOf eight h bus)) ≡ carriedAll (entriesAt eight h z rs wr bus) (p .sheet)
+way-sheet true h z rs wr time bus p n =
+    subst (λ x. sheetBy time rs wr bus bus p (wholeOf z rs wr bus) ≡ carriedAll (entriesAt true x z rs wr bus) (p .sheet)) (sym (n refl))
+    (whole-sheet time rs wr bus bus p z rs wr)
+way-sheet false Empty z rs wr time bus p n = first-sheet time rs wr bus (joinedOf false Empty bus) p z rs wr
+way-sheet false (Ignored a b) z rs wr time bus p n = ignored-sheet (Bool·beq a rs) (Bool·beq b wr) time rs wr bus (joinedOf false (Ignored a b) bus) p
+way-sheet false (Waiting a b nibble) z rs wr time bus p n =
+    let byte = joinedOf false (Waiting a b nibble) bus in
+    torn-sheet time rs wr bus byte p (Bool·beq a rs) (Bool·beq b wr) (secondOf rs wr byte) (entryOf rs wr byte) (second-sheet time rs wr bus byte p rs wr)
 
 -- DEMAND 2, THE STEPS
 pub steps : Steps ours
 unfolding transferred
-steps p bytes time rs wr bus f l e z =
-    ap (λ (r : Recorded). r .panel .sheet) (in-time p bytes time rs wr bus f l)
-    ∙ way-sheet (p .sheet .registers .eight) (p .half) (free time p) rs wr bus time p e z
+steps p bytes time rs wr bus s f l =
+    ap (λ (x : Recorded). x .panel .sheet) (in-time p bytes time rs wr bus f l)
+    ∙ way-sheet (p .sheet .registers .eight) (p .half) (free time p) rs wr time bus p (sound-narrow p s)

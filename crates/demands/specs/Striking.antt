@@ -1,9 +1,12 @@
 -- Demand 3, second half, on the bytes of a log: without its struck records it is answered as before.
 -- Struck are the records answered 2 to 7, and the first halves of pairs answered so; the unreadable tail stays out of it.
-use Prim.Native.Nat.{ℕ}
+use Prim.Native.Nat.{ℕ, _≤_}
 use mathlib.Core.Path.{_≡_}
-use mathlib.Core.List.{List, [], Sublistᴰ}
+use mathlib.Core.List.{List, [], _∷_, Sublistᴰ}
+use lib.Dec.{eqb}
+use Rattle.laws.specs.Pick.{pick}
 use Rattle.log.specs.Frames.{frames, tail, joined}
+use Rattle.mirror.specs.Answer.{numberOf}
 use Rattle.mirror.specs.Panel.{freshPanel}
 use Rattle.mirror.specs.Record.{holding}
 use Rattle.mirror.specs.declared.half.Half.the-variants.{Empty}
@@ -42,3 +45,13 @@ pub record StruckFrom (m : Mirror) (p : Panel) (log : List ℕ) : Type 0 where
 -- DEMAND 3, SECOND HALF, of any mirror: from a fresh panel, for any log
 abbrev pub Strikes : Mirror → Type 0
 Strikes m = (reset long short : ℕ) (log : List ℕ) → StruckFrom m (freshPanel reset long short) log
+
+-- the records answered taken
+abbrev pub takens : List (Answered (List ℕ) Reply) → List (Answered (List ℕ) Reply)
+takens [] = []
+takens (a ∷ rest) = pick (eqb (numberOf (a .answer .answer)) 0) (a ∷ takens rest) (takens rest)
+
+-- all are answered taken or held
+abbrev pub TakenOrHeld : List (Answered (List ℕ) Reply) → Type 0
+TakenOrHeld [] = Unit {0}
+TakenOrHeld (a ∷ rest) = (numberOf (a .answer .answer) ≤ 1) × TakenOrHeld rest

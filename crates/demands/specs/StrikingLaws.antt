@@ -1,24 +1,29 @@
 -- Demand 3, second half, holds of our mirror.
 use Prim.Native.Nat.{ℕ}
+use native.Mathlib.Omega.{arith}
 use mathlib.Core.Path.{_≡_, refl, sym, ap, _∙_, subst}
-use mathlib.Core.Bool.{false}
-use mathlib.Core.List.{List, [], append-nil, Sublistᴰ, Sublistᴰ·slnil, Sublistᴰ·cons, Sublistᴰ·cons-cons}
+use mathlib.Core.Bool.{Bool, true, false}
+use mathlib.Core.List.{List, [], _∷_, append-nil, Sublistᴰ, Sublistᴰ·slnil, Sublistᴰ·cons, Sublistᴰ·cons-cons}
 use lib.ListN.{length}
 use lib.Dec.{ltb}
+use Rattle.laws.specs.Pick.{pick}
 use Rattle.log.specs.FrontLaws.{Front}
 use Rattle.log.specs.Frames.{Pieces, piecesFrom, pieces, frames, joined}
 use Rattle.log.specs.FramesLaws.{AllRecords, frames-are-records, joined-pieces}
 use Rattle.chip.specs.Sound.{patternFits}
 use Rattle.mirror.specs.Panel.{freshPanel}
 use Rattle.mirror.specs.Stream.{runOf}
+use Rattle.mirror.specs.declared.answer.Answer.{Answer}
+use Rattle.mirror.specs.declared.answer.Answer.the-variants as say
 use Rattle.mirror.specs.declared.half.Half.the-variants.{Empty}
 use Rattle.mirror.specs.declared.panel.Panel.{Panel}
-use Rattle.striking.specs.Machine.{run, final}
-use Rattle.striking.specs.Striking.{struck, Struck}
+use Rattle.striking.specs.Machine.{Sort, Answered, run, final}
+use Rattle.striking.specs.Striking.{remains, unstruck, struck, Struck}
+use Rattle.striking.specs.Striking.{keptBy as kept}
 use Rattle.striking.specs.StrikingLaws.{striking}
-use Rattle.demands.specs.Mirrors.{ours, machineOf}
+use Rattle.demands.specs.Mirrors.{Reply, Mirror, ours, sortOf, machineOf}
 use Rattle.demands.specs.AnswersLaws.{of-run}
-use Rattle.demands.specs.Striking.{struckLog, settledPanel, StruckFrom, Strikes}
+use Rattle.demands.specs.Striking.{struckLog, settledPanel, StruckFrom, Strikes, takens, TakenOrHeld}
 use Rattle.demands.specs.MirrorLaws.{mirror-laws}
 
 -- some of a log's records are records
@@ -72,3 +77,49 @@ strike-run reset long short log =
       busy = ap (λ (x : Panel). x .busy) e;
       cut = ap (λ (x : List ℕ). ltb 0 (length x)) (s .whole);
     }
+
+-- What goes and what stays, of any mirror
+abbrev told : List ℕ → Answer → ℕ → Answered (List ℕ) Reply
+told bytes answer byte = record { event = bytes; answer = record { answer = answer; byte = byte } }
+
+module _ (bytes : List ℕ) (byte : ℕ) (left all : List (Answered (List ℕ) Reply)) where
+  taken-one : (a : Answer) (later : Bool) → takens left ≡ takens all →
+      takens (pick (remains (sortOf a .own) later) (told bytes a byte ∷ left) left) ≡ takens (told bytes a byte ∷ all)
+  taken-one say.Taken later h = ap (λ l. told bytes say.Taken byte ∷ l) h
+  taken-one say.Held true h = h
+  taken-one say.Held false h = h
+  taken-one say.Status later h = h
+  taken-one say.Ignored later h = h
+  taken-one say.Torn later h = h
+  taken-one say.Back later h = h
+  taken-one say.Bad later h = h
+  taken-one say.Nothing later h = h
+  taken-one say.Cut later h = h
+  taken-one say.Unsound later h = h
+
+  held-one : (a : Answer) (later : Bool) → TakenOrHeld left → TakenOrHeld (pick (remains (sortOf a .own) later) (told bytes a byte ∷ left) left)
+  held-one say.Taken later h = (omega arith, h)
+  held-one say.Held true h = (omega arith, h)
+  held-one say.Held false h = h
+  held-one say.Status later h = h
+  held-one say.Ignored later h = h
+  held-one say.Torn later h = h
+  held-one say.Back later h = h
+  held-one say.Bad later h = h
+  held-one say.Nothing later h = h
+  held-one say.Cut later h = h
+  held-one say.Unsound later h = h
+
+module _ (m : Mirror) where
+  abbrev sort : List ℕ → Reply → Sort
+  sort = machineOf m .sort
+
+  -- no record that was taken is struck
+  pub taken-stays : (l : List (Answered (List ℕ) Reply)) → takens (unstruck sort l) ≡ takens l
+  taken-stays [] = refl
+  taken-stays (a ∷ l) = taken-one (a .event) (a .answer .byte) (unstruck sort l) l (a .answer .answer) (kept sort l) (taken-stays l)
+
+  -- and of all others only held ones stay: none that is ignored, unusable or a completed status read
+  pub only-taken-or-held : (l : List (Answered (List ℕ) Reply)) → TakenOrHeld (unstruck sort l)
+  only-taken-or-held [] = tt
+  only-taken-or-held (a ∷ l) = held-one (a .event) (a .answer .byte) (unstruck sort l) l (a .answer .answer) (kept sort l) (only-taken-or-held l)

@@ -24,10 +24,12 @@ starts x r s e f = ap (λ (y : Sheet). (y .registers, y .display, y .pattern)) (
 steps : (f : Sheet → Sheet) (self : Registers) → Determines (λ r. Steps f self r)
 steps f self r s e g = ap (λ (y : Sheet). y .registers) (e [] [] ∙ sym (g [] []))
 
-steps-display : (f : Sheet → Sheet) (self : Registers) (display : List ℕ) → Determines {A = Registers × List ℕ} (λ (r, d). StepsDisplay f self display r d)
+steps-display : (f : Sheet → Sheet) (self : Registers) (display : List ℕ) →
+    Determines {A = Registers × List ℕ} (λ (r, d). StepsDisplay f self display r d)
 steps-display f self display r s e g = ap (λ (y : Sheet). (y .registers, y .display)) (e [] ∙ sym (g []))
 
-steps-both : (f : Sheet → Sheet) (self : Registers) (display pattern : List ℕ) → Determines {A = Registers × List ℕ × List ℕ} (λ (r, d, p). StepsBoth f self display pattern r d p)
+steps-both : (f : Sheet → Sheet) (self : Registers) (display pattern : List ℕ) →
+    Determines {A = Registers × List ℕ × List ℕ} (λ (r, d, p). StepsBoth f self display pattern r d p)
 steps-both f self display pattern r s e g = ap (λ (y : Sheet). (y .registers, y .display, y .pattern)) (e ∙ sym g)
 
 -- chip::address::step_round
@@ -43,7 +45,8 @@ pub display-address-read : (self : DisplayAddress) (display : List ℕ) → Dete
 display-address-read self display = equal
 
 -- chip::address::DisplayAddress::write
-pub display-address-write : (self : DisplayAddress) (byte : ℕ) (display : List ℕ) → Determines (λ display′. display′ ≡ writtenDisplay self byte display)
+pub display-address-write : (self : DisplayAddress) (byte : ℕ) (display : List ℕ) →
+    Determines (λ display′. display′ ≡ writtenDisplay self byte display)
 display-address-write self byte display = equal
 
 -- chip::address::PatternAddress::moved
@@ -55,7 +58,8 @@ pub pattern-address-read : (self : PatternAddress) (pattern : List ℕ) → Dete
 pattern-address-read self pattern = equal
 
 -- chip::address::PatternAddress::write
-pub pattern-address-write : (self : PatternAddress) (byte : ℕ) (pattern : List ℕ) → Determines (λ pattern′. pattern′ ≡ writtenPattern self byte pattern)
+pub pattern-address-write : (self : PatternAddress) (byte : ℕ) (pattern : List ℕ) →
+    Determines (λ pattern′. pattern′ ≡ writtenPattern self byte pattern)
 pattern-address-write self byte pattern = equal
 
 -- chip::address::Address::number
@@ -75,7 +79,8 @@ pub registers-fresh : Determines {A = Registers × List ℕ × List ℕ} (λ (r,
 registers-fresh = starts freshSheet
 
 -- chip::registers::Registers::clear
-pub registers-clear : (self : Registers) (display : List ℕ) → Determines {A = Registers × List ℕ} (λ (r, display′). StepsDisplay cleared self display r display′)
+pub registers-clear : (self : Registers) (display : List ℕ) →
+    Determines {A = Registers × List ℕ} (λ (r, display′). StepsDisplay cleared self display r display′)
 registers-clear self display = steps-display cleared self display
 
 -- chip::registers::Registers::home
@@ -107,11 +112,13 @@ pub registers-set : (self : Registers) (address : Address) → Determines (λ r.
 registers-set self address = steps (addressSet address) self
 
 -- chip::registers::Registers::act
-pub registers-act : (self : Registers) (i : Instruction) (display : List ℕ) → Determines {A = Registers × List ℕ} (λ (r, display′). StepsDisplay (acted i) self display r display′)
+pub registers-act : (self : Registers) (i : Instruction) (display : List ℕ) →
+    Determines {A = Registers × List ℕ} (λ (r, display′). StepsDisplay (acted i) self display r display′)
 registers-act self i display = steps-display (acted i) self display
 
 -- chip::registers::Registers::obey
-pub registers-obey : (self : Registers) (code : ℕ) (display : List ℕ) → Determines {A = Registers × List ℕ} (λ (r, display′). StepsDisplay (obeyed code) self display r display′)
+pub registers-obey : (self : Registers) (code : ℕ) (display : List ℕ) →
+    Determines {A = Registers × List ℕ} (λ (r, display′). StepsDisplay (obeyed code) self display r display′)
 registers-obey self code display = steps-display (obeyed code) self display
 
 -- chip::registers::Registers::here
@@ -123,7 +130,8 @@ pub registers-read : (self : Registers) → Determines (λ r. Steps passed self 
 registers-read self = steps passed self
 
 -- chip::registers::Registers::write
-pub registers-write : (self : Registers) (byte : ℕ) (display pattern : List ℕ) → Determines {A = Registers × List ℕ × List ℕ} (λ (r, display′, pattern′). StepsBoth (written byte) self display pattern r display′ pattern′)
+pub registers-write : (self : Registers) (byte : ℕ) (display pattern : List ℕ) →
+    Determines {A = Registers × List ℕ × List ℕ} (λ (r, display′, pattern′). StepsBoth (written byte) self display pattern r display′ pattern′)
 registers-write self byte display pattern = steps-both (written byte) self display pattern
 
 -- chip::sheet::Address::fits

@@ -52,7 +52,8 @@ pub live-panel : (self : Live) (times : Times) (display pattern : List ℕ) → 
 live-panel self times display pattern = equal
 
 -- mirror::live::Live::turn
-pub live-turn : (self : Live) (times : Times) (log display pattern : List ℕ) → Determines {A = Live × List ℕ × List ℕ} (λ (r, display′, pattern′). recordedOf times r display′ pattern′ ≡ answered (frameOf log) (panelOf times self display pattern))
+pub live-turn : (self : Live) (times : Times) (log display pattern : List ℕ) →
+    Determines {A = Live × List ℕ × List ℕ} (λ (r, display′, pattern′). recordedOf times r display′ pattern′ ≡ answered (frameOf log) (panelOf times self display pattern))
 live-turn self times log display pattern = recordeds times (answered (frameOf log) (panelOf times self display pattern))
 
 -- mirror::live::Panel::turned

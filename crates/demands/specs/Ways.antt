@@ -2,14 +2,14 @@
 use Prim.Native.Nat.{ℕ, _*_, _%_, _/_, _≤_}
 use mathlib.Core.Path.{_≡_, refl, sym}
 use mathlib.Core.Bool.{Bool, true, false, not, Bool·beq, true≢false}
-use mathlib.Core.List.{List, [], _∷_}
+use mathlib.Core.List.{[], _∷_}
 use lib.Dec.{ltb, eqb}
 use borrow.Author.Tests.{ltb-false, eqb-false}
 use Rattle.laws.specs.Pick.{pick}
 use Rattle.log.specs.declared.frame.Frame.{Frame}
 use Rattle.log.specs.declared.frame.Frame.the-variants as frame
 use Rattle.chip.specs.Sheet.{freshSheet}
-use Rattle.mirror.specs.Way.{nibbleOf, joinedOf, finishOf, wholeOf, firstOf, secondOf, unlessTorn, pairOf, wayOf}
+use Rattle.mirror.specs.Way.{nibbleOf, joinedOf, finishOf, wholeOf, firstOf, secondOf, unlessTorn, wayOf}
 use Rattle.mirror.specs.Record.{recorded, free, statusOf, hereOf, holding, done, spanOf, high, went, transferred, answered}
 use Rattle.mirror.specs.declared.answer.Answer.{Answer}
 use Rattle.mirror.specs.declared.answer.Answer.the-variants as say
