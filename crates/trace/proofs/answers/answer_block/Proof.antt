@@ -1,0 +1,93 @@
+use Prim.Native.Nat.{ℕ, _+_, _-_, _≤_}
+use mathlib.Core.Path.{_≡_}
+use native.Mathlib.Omega.{arith}
+use mathlib.Core.List.{List}
+use lib.ListN.{length, take, drop, length-take}
+use denote.Ref.{now}
+use Rattle.mirror.specs.NextLaws.{next-within}
+use Rattle.mirror.specs.Stream.{nextOf}
+use Rattle.mirror.specs.declared.stream.Stream.{Stream}
+use Rattle.mirror.specs.declared.stream.Next.{Next}
+use borrow.Author.Needs.{needs}
+use Rattle.trace.proofs.answers.answer_block.Statement.{statement}
+use Rattle.trace.proofs.answers.answer_block.Tie as tie
+
+-- what is read after the next record begins within the block
+reached : (block : List ℕ) (at : ℕ) (st : Stream) (r : Next) → at ≤ length block → r ≡ nextOf st (take (length block - at) (drop at block)) → at + r .taken ≤ length block
+reached block at st r h e =
+    let rest = take (length block - at) (drop at block) in
+    rw e (omega (arith, next-within st rest, length-take (length block - at) (drop at block)))
+
+abbrev Inv-loop : tie.InvT-loop
+Inv-loop block stream₀ lines₀ end₀ at₀ turns₀ stream lines end at turns = at ≤ length block
+
+abbrev μ-loop : tie.MeasureT-loop
+μ-loop block stream₀ lines₀ end₀ at₀ turns₀ stream lines end at turns = turns
+
+loop-holds : tie.Need-loop-holds Inv-loop μ-loop
+loop-holds c = search needs
+
+sub-next : tie.Need-sub-next Inv-loop μ-loop
+sub-next c = search needs
+
+part-next-start : tie.Need-part-next-start Inv-loop μ-loop
+part-next-start c = search needs
+
+part-next-end : tie.Need-part-next-end Inv-loop μ-loop
+part-next-end c = search needs
+
+next-requires : tie.Need-next-requires Inv-loop μ-loop
+next-requires c κs = search needs
+
+add-at : tie.Need-add-at Inv-loop μ-loop
+add-at c =
+    let b = c .before .before .before .before .before in
+    omega (arith, b .before .before .good, reached (now (b .before .before .args .block)) (b .loop .at) (b .loop .stream) (c .before .before .next .result) (b .loop .inv) (c .before .before .next .ensures))
+
+enum-known-reply : tie.Need-enum-known-reply Inv-loop μ-loop
+enum-known-reply c = search needs
+
+number-requires : tie.Need-number-requires Inv-loop μ-loop
+number-requires c κs = search needs
+
+put-line-requires : tie.Need-put-line-requires Inv-loop μ-loop
+put-line-requires c κs = search needs
+
+sub-turns : tie.Need-sub-turns Inv-loop μ-loop
+sub-turns c = search needs
+
+loop-less : tie.Need-loop-less Inv-loop μ-loop
+loop-less c = search needs
+
+loop-again : tie.Need-loop-again Inv-loop μ-loop
+loop-again c =
+    let n = c .before .before .before .before .before .before .before .before in
+    let b = n .before .before .before in
+    reached (now (b .before .before .args .block)) (b .loop .at) (b .loop .stream) (n .next .result) (b .loop .inv) (n .next .ensures)
+
+write-lines-requires : tie.Need-write-lines-requires Inv-loop μ-loop
+write-lines-requires c κs = search needs
+
+returns : tie.Need-returns Inv-loop μ-loop
+returns c = search needs
+
+pub answer-block-spec : {M : Type 1} → statement M
+answer-block-spec =
+    tie.close
+    (tie.spec
+    Inv-loop
+    μ-loop
+    loop-holds
+    sub-next
+    part-next-start
+    part-next-end
+    next-requires
+    add-at
+    enum-known-reply
+    number-requires
+    put-line-requires
+    sub-turns
+    loop-less
+    loop-again
+    write-lines-requires
+    returns)

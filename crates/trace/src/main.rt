@@ -1,0 +1,202 @@
+// Prints everything that a test or a doubtful colleague wants to see of a log: docs/TRACE.md has the print.
+mod answers;
+mod bytes;
+mod options;
+mod panel_file;
+mod show;
+
+use answers::answer_all;
+use bytes::Bytes;
+use bytes::load;
+use mirror::panel::Panel;
+use mirror::stream::Stream;
+use options::Options;
+use options::asked;
+use options::complain;
+use options::size_at;
+use options::times_at;
+use panel_file::PANEL_SIZE;
+use panel_file::fits;
+use panel_file::panel_of;
+use show::show_difference;
+use show::show_painting;
+use show::show_run;
+use std::num::wrapping_add_usize;
+
+// The font's 120 codes of eight rows.
+const FONT_SIZE: usize = 1920;
+
+// The largest frame to compare.
+const MOST: usize = 200;
+
+// A panel to start from, or none where it could not be had; then a line was written.
+struct Started {
+    ok: bool,
+    panel: Panel,
+}
+
+// What the painter and the comparison are lent; the two frames only where they were named.
+struct Lent {
+    font: Bytes,
+    size: usize,
+    named: bool,
+    a: Bytes,
+    b: Bytes,
+}
+
+// The trial font's byte: (37 i + 11 (i div 8) + 5) mod 256, but code 20h is blank above its five bits.
+fn trial_byte(i: usize) -> u8 {
+    if i / 8 == 16 {
+        return 0xE0;
+    }
+    ((i % 4096 * 37 + i % 4096 / 8 * 11 + 5) % 256) as u8
+}
+
+fn trial_font() -> Bytes {
+    let mut bytes = io::buffer();
+    for i in 0..FONT_SIZE {
+        bytes[i] = trial_byte(i);
+    }
+    Bytes {
+        ok: true,
+        bytes,
+        len: FONT_SIZE,
+    }
+}
+
+fn font_at(place: usize) -> Bytes {
+    if place == 0 {
+        return trial_font();
+    }
+    load(place)
+}
+
+// The panel in a file; `fresh` stands in where there is none.
+fn loaded_panel(place: usize, fresh: Panel) -> Started {
+    let none = Started {
+        ok: false,
+        panel: fresh,
+    };
+    let file = load(place);
+    if !file.ok {
+        return none;
+    }
+    if file.len != PANEL_SIZE {
+        complain(b"a panel file has 84 bytes");
+        return none;
+    }
+    let bytes = file.bytes;
+    if !fits(bytes) {
+        complain(b"the panel file holds a byte that no panel has");
+        return none;
+    }
+    Started {
+        ok: true,
+        panel: panel_of(bytes),
+    }
+}
+
+fn first_panel(options: Options) -> Started {
+    let timed = times_at(options.times);
+    let times = timed.times;
+    let fresh = Panel::fresh(times.reset, times.long, times.short);
+    if !timed.ok {
+        return Started {
+            ok: false,
+            panel: fresh,
+        };
+    }
+    if options.panel == 0 {
+        return Started {
+            ok: true,
+            panel: fresh,
+        };
+    }
+    loaded_panel(options.panel, fresh)
+}
+
+// A frame to compare, in a file; an empty one where none is named.
+fn frame_at(place: usize) -> Bytes {
+    if place == 0 {
+        return Bytes {
+            ok: true,
+            bytes: io::buffer(),
+            len: 0,
+        };
+    }
+    let file = load(place);
+    if file.len <= MOST {
+        return file;
+    }
+    complain(b"a frame to compare has at most 200 bytes");
+    Bytes { ok: false, ..file }
+}
+
+// The place of the second frame to compare.
+fn second_place(place: usize) -> usize {
+    if place == 0 {
+        return 0;
+    }
+    wrapping_add_usize(place, 1)
+}
+
+// The lines of the records, then those of the run.
+fn print(panel: Panel, lent: Lent) {
+    let mut block = io::large_buffer();
+    let done = answer_all(Stream::start(panel), &mut block);
+    if done.failed {
+        return;
+    }
+    let stream = done.stream;
+    let run = stream.end();
+    let after = run.panel;
+    let font = lent.font;
+    show_run(run);
+    let light = show_painting(b"frame 0", after, font, false, lent.size);
+    let dark = show_painting(b"frame 1", after, font, true, lent.size);
+    if lent.named {
+        let a = lent.a;
+        let b = lent.b;
+        show_difference(a, b);
+    } else {
+        show_difference(light, dark);
+    }
+}
+
+fn main() {
+    let options = asked();
+    if !options.ok {
+        return;
+    }
+    let size = size_at(options.frame);
+    if !size.ok {
+        return;
+    }
+    let started = first_panel(options);
+    if !started.ok {
+        return;
+    }
+    let font = font_at(options.font);
+    if !font.ok {
+        return;
+    }
+    let a = frame_at(options.frames);
+    if !a.ok {
+        return;
+    }
+    let b = frame_at(second_place(options.frames));
+    if !b.ok {
+        return;
+    }
+    let panel = started.panel;
+    print(
+        panel,
+        Lent {
+            font,
+            size: (size.value % 256) as usize,
+            named: options.frames != 0,
+            a,
+            b,
+        },
+    );
+}
