@@ -25,13 +25,13 @@ use Rattle.mirror.specs.declared.way.Way.the-variants as way
 use Rattle.striking.specs.Machine.{goes, strikes, leaves, sorted, Machine}
 use Rattle.striking.specs.Laws.{Turn, KeeperStays, Laws}
 use Rattle.striking.specs.Instances.{through-laws}
-use Rattle.demands.specs.Mirrors.{Reply, outOf, ours, sortOf, machineOf}
+use Rattle.demands.specs.Mirrors.{Reply, outOf, ours, sortOf, settledPanel, machineOf}
 use Rattle.demands.specs.Replay.{carried}
 use Rattle.demands.specs.Ways.{Drops, status, ignored, torn, nothing, Stands, back, bad, cut, Narrow, Fits, Goes, acts, drops, misses, begins, Came, stands, restarts, transfers, came}
 
 -- our mirror on records that are parsed already
 abbrev parsed : Machine Panel Frame Reply
-parsed = record { step = λ p f. outOf (answered f p); sort = λ f r. sortOf (r .answer); bare = holding 0 Empty; Idle = λ p. p .half ≡ Empty }
+parsed = record { step = λ p f. outOf (answered f p); sort = λ f r. sortOf (r .answer); bare = settledPanel; Idle = λ p. p .half ≡ Empty }
 
 -- the half that may yet be struck: an ignored one is struck already
 abbrev live : Half → Half
@@ -138,7 +138,7 @@ begins-beside w e =
     let g : holding (w .last) (live (w .half)) w ≡ w = ap (λ h. holding (w .last) (live h) w) e ∙ f in
     subst (λ x. Beside w x w) g (subst (λ x. Beside w (holding (w .last) (live (w .half)) w) x) f b)
 
-ends : (w k s : Panel) → Beside w k s → holding 0 Empty k ≡ holding 0 Empty w
+ends : (w k s : Panel) → Beside w k s → settledPanel k ≡ settledPanel w
 ends w k s (beside p l l₁ x y n) = refl
 
 keeper-stays : (a : Answer) → KeeperStays (sortOf a .own) (sortOf a .others)

@@ -23,7 +23,7 @@ Mirror = Panel → List ℕ → Out Panel Reply
 abbrev pub outOf : Recorded → Out Panel Reply
 outOf r = record { state = r .panel; answer = record { answer = r .answer; byte = r .byte } }
 
--- ours
+-- ours: what a run makes of a record
 abbrev pub ours : Mirror
 ours p bytes = outOf (answered (frameOf bytes) p)
 
@@ -41,6 +41,10 @@ sortOf Nothing = sorted goes strikes
 sortOf Cut = sorted goes leaves
 sortOf Unsound = sorted goes leaves
 
--- a mirror as a machine that reads the records' bytes; bare of its last time and its waiting half, a panel is all the rest
+-- all of a panel but its last time and its waiting half: the sheet, the busy end, and whatever else there is
+abbrev pub settledPanel : Panel → Panel
+settledPanel p = holding 0 Empty p
+
+-- a mirror as a machine that reads the records' bytes
 abbrev pub machineOf : Mirror → Machine Panel (List ℕ) Reply
-machineOf m = record { step = m; sort = λ bytes r. sortOf (r .answer); bare = holding 0 Empty; Idle = λ p. p .half ≡ Empty }
+machineOf m = record { step = m; sort = λ bytes r. sortOf (r .answer); bare = settledPanel; Idle = λ p. p .half ≡ Empty }

@@ -8,12 +8,10 @@ use Rattle.laws.specs.Pick.{pick}
 use Rattle.log.specs.Frames.{frames, tail, joined}
 use Rattle.mirror.specs.Answer.{numberOf}
 use Rattle.mirror.specs.Panel.{freshPanel}
-use Rattle.mirror.specs.Record.{holding}
-use Rattle.mirror.specs.declared.half.Half.the-variants.{Empty}
 use Rattle.mirror.specs.declared.panel.Panel.{Panel}
 use Rattle.striking.specs.Machine.{Answered, events}
 use Rattle.striking.specs.Striking.{unstruck}
-use Rattle.demands.specs.Mirrors.{Reply, Mirror, machineOf}
+use Rattle.demands.specs.Mirrors.{Reply, Mirror, settledPanel, machineOf}
 use Rattle.demands.specs.Answers.{answersBy, panelBy}
 
 -- the records that stay, with what they were told: read off the log and its answers alone
@@ -24,12 +22,21 @@ keptBy m p log = unstruck (machineOf m .sort) (answersBy m p log)
 abbrev pub struckLog : Mirror → Panel → List ℕ → List ℕ
 struckLog m p log = joined (events (keptBy m p log))
 
--- all of a panel but its last time and its waiting half: the sheet, the busy end, and whatever else there is
-abbrev pub settledPanel : Panel → Panel
-settledPanel p = holding 0 Empty p
+-- the records answered taken
+abbrev pub takens : List (Answered (List ℕ) Reply) → List (Answered (List ℕ) Reply)
+takens [] = []
+takens (a ∷ rest) = pick (eqb (numberOf (a .answer .answer)) 0) (a ∷ takens rest) (takens rest)
+
+-- all are answered taken or held
+abbrev pub TakenOrHeld : List (Answered (List ℕ) Reply) → Type 0
+TakenOrHeld [] = Unit {0}
+TakenOrHeld (a ∷ rest) = (numberOf (a .answer .answer) ≤ 1) × TakenOrHeld rest
 
 -- What is claimed of striking a log that is answered from p on
 pub record StruckFrom (m : Mirror) (p : Panel) (log : List ℕ) : Type 0 where
+  -- all that was taken stays, and of the rest only first halves that were held
+  pub taken : takens (keptBy m p log) ≡ takens (answersBy m p log)
+  pub others : TakenOrHeld (keptBy m p log)
   -- reading the struck log gives the records that stay, and no tail
   pub records : frames (struckLog m p log) ≡ events (keptBy m p log)
   pub whole : tail (struckLog m p log) ≡ []
@@ -45,13 +52,3 @@ pub record StruckFrom (m : Mirror) (p : Panel) (log : List ℕ) : Type 0 where
 -- DEMAND 3, SECOND HALF, of any mirror: from a fresh panel, for any log
 abbrev pub Strikes : Mirror → Type 0
 Strikes m = (reset long short : ℕ) (log : List ℕ) → StruckFrom m (freshPanel reset long short) log
-
--- the records answered taken
-abbrev pub takens : List (Answered (List ℕ) Reply) → List (Answered (List ℕ) Reply)
-takens [] = []
-takens (a ∷ rest) = pick (eqb (numberOf (a .answer .answer)) 0) (a ∷ takens rest) (takens rest)
-
--- all are answered taken or held
-abbrev pub TakenOrHeld : List (Answered (List ℕ) Reply) → Type 0
-TakenOrHeld [] = Unit {0}
-TakenOrHeld (a ∷ rest) = (numberOf (a .answer .answer) ≤ 1) × TakenOrHeld rest
