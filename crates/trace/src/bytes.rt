@@ -1,7 +1,5 @@
 // Bytes by value, as many as a file named among the arguments may need, and the reading of such a file.
 ghost use Prim.Native.Nat.{_≤_};
-ghost use mathlib.Core.Path.{_≡_};
-ghost use lib.ListN.{length};
 ghost use Rattle.io.specs.Counts.{Counts};
 
 // Above the size of a font, a panel and a frame: a file that fills it is none of them.

@@ -5,6 +5,7 @@ mod options;
 mod panel_file;
 mod show;
 
+ghost use Prim.Native.Nat.{_<_};
 use answers::answer_all;
 use bytes::Bytes;
 use bytes::load;
@@ -18,13 +19,11 @@ use options::times_at;
 use panel_file::PANEL_SIZE;
 use panel_file::fits;
 use panel_file::panel_of;
+use picture::pattern::FONT_SIZE;
 use show::show_difference;
 use show::show_painting;
 use show::show_run;
 use std::num::wrapping_add_usize;
-
-// The font's 120 codes of eight rows.
-const FONT_SIZE: usize = 1920;
 
 // The largest frame to compare.
 const MOST: usize = 200;
@@ -44,12 +43,15 @@ struct Lent {
     b: Bytes,
 }
 
-// The trial font's byte: (37 i + 11 (i div 8) + 5) mod 256, but code 20h is blank above its five bits.
-fn trial_byte(i: usize) -> u8 {
+// The trial font: byte i is (37 i + 11 (i div 8) + 5) mod 256, but the eight bytes of code 20h are E0h, blank in the low
+// five bits.
+fn trial_byte(i: usize) -> u8
+    requires { ⌜ i < 1920 ⌝ }
+{
     if i / 8 == 16 {
         return 0xE0;
     }
-    ((i % 4096 * 37 + i % 4096 / 8 * 11 + 5) % 256) as u8
+    ((37 * i + 11 * (i / 8) + 5) % 256) as u8
 }
 
 fn trial_font() -> Bytes {
@@ -125,6 +127,9 @@ fn frame_at(place: usize) -> Bytes {
         };
     }
     let file = load(place);
+    if !file.ok {
+        return file;
+    }
     if file.len <= MOST {
         return file;
     }
@@ -193,7 +198,7 @@ fn main() {
         panel,
         Lent {
             font,
-            size: (size.value % 256) as usize,
+            size: size.value as usize,
             named: options.frames != 0,
             a,
             b,

@@ -3,6 +3,7 @@ ghost use Prim.Native.Nat.{_≤_};
 use check::same;
 use libc::STDERR_FILENO;
 use mirror::panel::Times;
+use picture::frame::FRAME_SIZE;
 use std::num::wrapping_add_usize;
 
 // Where the words after the first of each group stand among the arguments, 0 for a group that was not given.
@@ -242,6 +243,7 @@ pub fn times_at(place: usize) -> Timed {
     let long = number_at(wrapping_add_usize(place, 1), 65535);
     let short = number_at(wrapping_add_usize(place, 2), 65535);
     if reset.ok & long.ok & short.ok {
+        // Each is its own remainder, being at most 65535; the remainder is what shows that it fits.
         return Timed {
             ok: true,
             times: Times {
@@ -263,7 +265,7 @@ pub fn size_at(place: usize) -> Number {
     if place == 0 {
         return Number {
             ok: true,
-            value: 80,
+            value: FRAME_SIZE as u64,
         };
     }
     let size = number_at(place, 200);

@@ -1,4 +1,3 @@
-use Prim.Native.Nat.{_-_}
 use borrow.Author.Needs.{needs}
 use Rattle.trace.proofs.options.asked.Statement.{statement}
 use Rattle.trace.proofs.options.asked.Tie as tie

@@ -1,0 +1,55 @@
+// The painter in plain C, written for speed: the twin that `paintings` is measured against. It paints the panel that a log
+// leaves as often, with the same font, shifts and blink, and prints the same two lines.
+#define main mirror_main
+#include "mirror.c"
+#undef main
+
+static uint8_t font[1920], frame[80];
+
+static int sound(const panel *p) {
+    if (p->address > (p->in_pattern ? 31 : 15) || p->shift > 15 || p->function > 15) return 0;
+    for (int i = 0; i < 32; i++)
+        if (p->pattern[i] > 31) return 0;
+    if (p->half != EMPTY && (p->eight || p->nibble > 15)) return 0;
+    return p->last >> 48 == 0 && p->busy < (1ull << 48) + 65536;
+}
+
+static int paint(const panel *p, int dark) {
+    if (!sound(p)) return 0;
+    int lit = 0;
+    memset(frame, 0, sizeof frame);
+    if (!p->on) return 0;
+    int cursor = (p->address + 16 - p->shift) & 15;
+    for (int cell = 0; cell < 16; cell++) {
+        uint8_t code = p->display[(cell + p->shift) & 15];
+        const uint8_t *rows = code < 16 ? p->pattern + 8 * (code & 3) : font + 8 * (code - 16);
+        for (int r = 0; r < 8; r++) {
+            uint8_t dots = rows[r] & 31;
+            if (cell == cursor && ((p->blink && dark) || (p->cursor && r == 7))) dots = 31;
+            for (int c = 0; c < 5; c++) {
+                int x = 5 * cell + c, v = dots >> (4 - c) & 1;
+                frame[10 * r + x / 8] |= v << (7 - x % 8);
+                lit += v;
+            }
+        }
+    }
+    return lit;
+}
+
+int main(void) {
+    panel p = {0};
+    int cut = 0;
+    fresh(&p);
+    ssize_t got = read(0, block, 65536);
+    consume(&p, block, got > 0 ? got : 0, &cut);
+    for (int i = 0; i < 1920; i++) font[i] = 37 * i + 5;
+    p.on = p.cursor = p.blink = 1;
+    uint64_t total = 0;
+    for (uint32_t i = 0; i < 100000; i++) {
+        p.shift = i % 16;
+        total = (total + paint(&p, i % 2)) % 1000000007;
+    }
+    printf("%llu\n", (unsigned long long)total);
+    for (int i = 0; i < 80; i++) printf("%02X", frame[i]);
+    printf("\n");
+}
