@@ -15,8 +15,8 @@ const LINE_SIZE: usize = 256;
 
 // The first `len` of `bytes`.
 pub struct Line {
-    pub bytes: [u8; LINE_SIZE],
-    pub len: usize,
+    bytes: [u8; LINE_SIZE],
+    len: usize,
 }
 
 impl Line {

@@ -15,7 +15,6 @@ use draw::draw_pairs;
 use draw::draw_rows;
 use draw::painted;
 use draw::write_bitmap;
-use libc::STDOUT_FILENO;
 use mirror::panel::Panel;
 use mirror::stream::Stream;
 use options::Options;
