@@ -1,0 +1,94 @@
+use Prim.Native.Nat.{ℕ, _+_, _-_, _≤_}
+use mathlib.Core.Path.{_≡_}
+use native.Mathlib.Omega.{arith}
+use mathlib.Core.List.{List}
+use lib.ListN.{length, take, drop, length-take}
+use denote.Ref.{now}
+use Rattle.mirror.specs.NextLaws.{next-within}
+use Rattle.mirror.specs.Stream.{nextOf}
+use Rattle.mirror.specs.declared.stream.Stream.{Stream}
+use Rattle.mirror.specs.declared.stream.Next.{Next}
+use borrow.Author.Needs.{needs}
+use Rattle.wall.proofs.watch.watch_block.Statement.{statement}
+use Rattle.wall.proofs.watch.watch_block.Tie as tie
+
+-- what is read after the next record begins within the block
+reached : (block : List ℕ) (at : ℕ) (st : Stream) (r : Next) → at ≤ length block → r ≡ nextOf st (take (length block - at) (drop at block)) → at + r .taken ≤ length block
+reached block at st r h e =
+    let rest = take (length block - at) (drop at block) in
+    rw e (omega (arith, next-within st rest, length-take (length block - at) (drop at block)))
+
+abbrev Inv-loop : tie.InvT-loop
+Inv-loop until block stream₀ more₀ at₀ turns₀ stream more at turns = at ≤ length block
+
+abbrev μ-loop : tie.MeasureT-loop
+μ-loop until block stream₀ more₀ at₀ turns₀ stream more at turns = turns
+
+loop-holds : tie.Need-loop-holds Inv-loop μ-loop
+loop-holds c = search needs
+
+sub-next : tie.Need-sub-next Inv-loop μ-loop
+sub-next c = search needs
+
+part-next-start : tie.Need-part-next-start Inv-loop μ-loop
+part-next-start c = search needs
+
+part-next-end : tie.Need-part-next-end Inv-loop μ-loop
+part-next-end c = search needs
+
+next-requires : tie.Need-next-requires Inv-loop μ-loop
+next-requires c κs = search needs
+
+later-requires : tie.Need-later-requires Inv-loop μ-loop
+later-requires c κs = search needs
+
+add-at : tie.Need-add-at Inv-loop μ-loop
+add-at c =
+    let n = c .before .before .before .before in
+    let b = n .before .before .before in
+    omega (arith, b .before .before .good, reached (now (b .before .before .args .block)) (b .loop .at) (b .loop .stream) (n .next .result) (b .loop .inv) (n .next .ensures))
+
+answered-requires : tie.Need-answered-requires Inv-loop μ-loop
+answered-requires c κs = search needs
+
+sub-turns : tie.Need-sub-turns Inv-loop μ-loop
+sub-turns c = search needs
+
+loop-less : tie.Need-loop-less Inv-loop μ-loop
+loop-less c = search needs
+
+loop-again : tie.Need-loop-again Inv-loop μ-loop
+loop-again c =
+    let n = c .before .before .before .before .before .before in
+    let b = n .before .before .before in
+    reached (now (b .before .before .args .block)) (b .loop .at) (b .loop .stream) (n .next .result) (b .loop .inv) (n .next .ensures)
+
+returns : tie.Need-returns Inv-loop μ-loop
+returns c = search needs
+
+returns-2 : tie.Need-returns-2 Inv-loop μ-loop
+returns-2 c = search needs
+
+returns-3 : tie.Need-returns-3 Inv-loop μ-loop
+returns-3 c = search needs
+
+pub watch-block-spec : {M : Type 1} → statement M
+watch-block-spec =
+    tie.close
+    (tie.spec
+    Inv-loop
+    μ-loop
+    loop-holds
+    sub-next
+    part-next-start
+    part-next-end
+    next-requires
+    later-requires
+    add-at
+    answered-requires
+    sub-turns
+    loop-less
+    loop-again
+    returns
+    returns-2
+    returns-3)

@@ -1,0 +1,111 @@
+// The log as it comes, up to a time.
+use libc::STDIN_FILENO;
+use mirror::stream::Next;
+use mirror::stream::Reply;
+use mirror::stream::Stream;
+
+// No record's time is later.
+pub const FOREVER: u64 = 281474976710656;
+
+// The stream so far, whether there may be more, and whether the reading failed.
+pub struct Seen {
+    pub stream: Stream,
+    pub more: bool,
+    pub failed: bool,
+}
+
+// Whether a record was answered whose time counts, 0 to 4 or 7, and that time is later.
+fn later(next: Next, until: u64) -> bool {
+    let reply = next.reply;
+    let Reply::Answered { answer, byte } = reply else {
+        return false;
+    };
+    let stream = next.stream;
+    let totals = stream.totals;
+    let panel = totals.panel;
+    let number = answer.number();
+    ((number < 5) | (number == 7)) & (until < panel.last)
+}
+
+// Whether a record was answered.
+fn answered(next: Next) -> bool {
+    let reply = next.reply;
+    match reply {
+        Reply::Answered { answer, byte } => true,
+        Reply::More => false,
+        Reply::Cut => false,
+    }
+}
+
+// Every record that a block makes whole, up to the first that is later: the stream is then the one before it.
+fn watch_block(start: Stream, until: u64, block: &[u8]) -> Seen {
+    let mut stream = start;
+    let mut more = true;
+    let mut at: usize = 0;
+    let mut turns = u64::MAX;
+    while turns > 0 {
+        let next = stream.next(&block[at..]);
+        if later(next, until) {
+            more = false;
+            break;
+        }
+        let after = next.stream;
+        stream = after;
+        at += next.taken;
+        if !answered(next) {
+            break;
+        }
+        turns -= 1;
+    }
+    Seen {
+        stream,
+        more,
+        failed: false,
+    }
+}
+
+// Reads once.
+fn watch_some(stream: Stream, until: u64, block: &mut [u8]) -> Seen {
+    let got = libc::read(STDIN_FILENO, block);
+    if got < 0 {
+        os::fail(b"standard input");
+        return Seen {
+            stream,
+            more: false,
+            failed: true,
+        };
+    }
+    if got == 0 {
+        return Seen {
+            stream,
+            more: false,
+            failed: false,
+        };
+    }
+    let n = io::count(got, block);
+    if until == FOREVER {
+        return Seen {
+            stream: stream.feed(&block[..n]),
+            more: true,
+            failed: false,
+        };
+    }
+    watch_block(stream, until, &block[..n])
+}
+
+// The whole of standard input, or as much as there is up to the time. A proved loop has to end, and nothing says that an
+// input does: it counts its turns down from a number that no run uses up.
+pub fn watch_all(start: Stream, until: u64, block: &mut [u8]) -> Seen {
+    let mut seen = Seen {
+        stream: start,
+        more: true,
+        failed: false,
+    };
+    let mut turns = u64::MAX;
+    while turns > 0 && seen.more {
+        let stream = seen.stream;
+        seen = watch_some(stream, until, block);
+        turns -= 1;
+    }
+    seen
+}
