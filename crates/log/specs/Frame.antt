@@ -1,5 +1,5 @@
 -- The framing of the log: what stands at the front of a slice of its bytes.
-use Prim.Native.Nat.{ℕ, _+_, _*_, _/_, _%_, _<_, _^_}
+use Prim.Native.Nat.{ℕ, _+_, _*_, _/_, _%_, _<_, _≤_, _^_}
 use mathlib.Core.Path.{_≡_}
 use mathlib.Core.Bool.{Bool, not, _&&_, _||_}
 use mathlib.Core.List.{List}
@@ -129,3 +129,9 @@ pub record Num16 (s : List ℕ) (at r : ℕ) : Type 0 where
 pub record Num64 (s : List ℕ) (at r : ℕ) : Type 0 where
   pub is : r ≡ num64 s at
   pub small : r < 2 ^ 64
+
+-- what holds before a record's body is read: its size and kind are known, and all its bytes are there
+pub record Whole (s : List ℕ) (size kind : ℕ) : Type 0 where
+  pub fits : size ≤ length s
+  pub sized : recordSize s ≡ size
+  pub told : kindOf s ≡ kind

@@ -9,7 +9,7 @@ use lib.Dec.{ltb}
 use lib.Seq.{length-take-le}
 use borrow.Author.Tests.{ltb-false, lt-ltb, le-ltb}
 use Rattle.laws.specs.Pick.{pick}
-use Rattle.log.specs.Frame.{num16, num64, lengthOf, recordSize, noLength, outsideLength, tooShort, cutAt, toldSize, wholeSize}
+use Rattle.log.specs.Frame.{num16, num64, lengthOf, recordSize, noLength, outsideLength, tooShort, cutAt, toldSize, wholeSize, Whole}
 
 -- a record of n bytes stands at the front: its length lies within 2 to 64, and its bytes are there
 pub record Front (s : List ℕ) (n : ℕ) : Type 0 where
@@ -38,6 +38,18 @@ uncut-front s u =
       least = ltb-false (lengthOf s) 2 (or-left (ltb (lengthOf s) 2) (ltb 64 (lengthOf s)) i);
       most = ltb-false 64 (lengthOf s) (or-right (ltb (lengthOf s) 2) (ltb 64 (lengthOf s)) i);
       fits = ltb-false (length s) (recordSize s) (or-right (noLength s || outsideLength s) (tooShort s) u);
+    }
+
+-- a record whose size and kind are known, of a size that a record can have
+pub whole-front : {s : List ℕ} {n k : ℕ} → Whole s n k → 4 ≤ n → n ≤ 66 → Front s n
+unfolding cutAt
+whole-front {s} {n} {k} w l m =
+    record {
+      uncut = rw (le-ltb (length s) 2 (omega (arith, w .fits)), le-ltb (lengthOf s) 2 (omega (arith, w .sized)), le-ltb 64 (lengthOf s) (omega (arith, w .sized)), le-ltb (length s) (recordSize s) (omega (arith, w .sized, w .fits)));
+      size = sym (w .sized);
+      least = omega (arith, w .sized);
+      most = omega (arith, w .sized);
+      fits = w .fits;
     }
 
 -- the size that the length tells, where it is there and where it lies inside

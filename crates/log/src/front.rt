@@ -2,11 +2,14 @@
 ghost use mathlib.Core.Path.{_≡_};
 ghost use Prim.Native.Nat.{_+_, _≤_};
 ghost use lib.ListN.{length};
-ghost use Rattle.log.specs.Frame.{Byte, Num16, Num64, toldSize, wholeSize, wantsMore, frameOf};
+ghost use Rattle.log.specs.Frame.{Byte, Num16, Num64, toldSize, wholeSize, wantsMore, frameOf, Whole};
 use crate::frame::Frame;
 
 // 2^48: times are below it.
 const TIME_END: u64 = 281474976710656;
+
+// Length 12 and kind 1, as the first four bytes of a transfer have them.
+const TRANSFER: u64 = 65548;
 
 // A byte as a wide number.
 fn wide(x: u8) -> u64
@@ -75,8 +78,39 @@ pub fn wants_more(log: &[u8]) -> bool
     log.len() < told(log)
 }
 
-// The record at the front, whatever follows it.
-pub fn frame(log: &[u8]) -> Frame
+// A transfer of the right length: its time and control are tested here.
+fn transfer(log: &[u8]) -> Frame
+    requires { ⌜ Whole (now log) 14 1 ⌝ }
+    ensures { λ r. ⌜ r ≡ frameOf (now (log .entry)) ⌝ }
+{
+    let time = num64(log, 4);
+    if TIME_END <= time {
+        return Frame::Bad(14);
+    }
+    let control = log[12];
+    if 4 <= control {
+        return Frame::Bad(14);
+    }
+    let rs = control % 2 == 1;
+    let rw = control / 2 % 2 == 1;
+    let data = log[13];
+    Frame::Transfer { time, rs, rw, data }
+}
+
+// A reset of the right length.
+fn reset(log: &[u8]) -> Frame
+    requires { ⌜ Whole (now log) 12 2 ⌝ }
+    ensures { λ r. ⌜ r ≡ frameOf (now (log .entry)) ⌝ }
+{
+    let time = num64(log, 4);
+    if TIME_END <= time {
+        return Frame::Bad(12);
+    }
+    Frame::Reset { time }
+}
+
+// Any record, by its size and kind.
+fn any(log: &[u8]) -> Frame
     ensures { λ r. ⌜ r ≡ frameOf (now (log .entry)) ⌝ }
 {
     let size = whole(log);
@@ -85,31 +119,29 @@ pub fn frame(log: &[u8]) -> Frame
     }
     let kind = num16(log, 2);
     if kind == 1 {
-        if size != 14 {
-            return Frame::Bad(size);
+        if size == 14 {
+            return transfer(log);
         }
-        let time = num64(log, 4);
-        if TIME_END <= time {
-            return Frame::Bad(size);
-        }
-        let control = log[12];
-        if 4 <= control {
-            return Frame::Bad(size);
-        }
-        let rs = control % 2 == 1;
-        let rw = control / 2 % 2 == 1;
-        let data = log[13];
-        return Frame::Transfer { time, rs, rw, data };
+        return Frame::Bad(size);
     }
     if kind == 2 {
-        if size != 12 {
-            return Frame::Bad(size);
+        if size == 12 {
+            return reset(log);
         }
-        let time = num64(log, 4);
-        if TIME_END <= time {
-            return Frame::Bad(size);
-        }
-        return Frame::Reset { time };
     }
     Frame::Bad(size)
+}
+
+// The record at the front, whatever follows it. Nearly all are transfers of the right length, which one look at the
+// first four bytes tells.
+pub fn frame(log: &[u8]) -> Frame
+    ensures { λ r. ⌜ r ≡ frameOf (now (log .entry)) ⌝ }
+{
+    if 14 <= log.len() {
+        let head = num16(log, 0) + 65536 * num16(log, 2);
+        if head == TRANSFER {
+            return transfer(log);
+        }
+    }
+    any(log)
 }
