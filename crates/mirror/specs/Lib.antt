@@ -6,6 +6,8 @@ pub mod Live
 pub mod RecordLaws
 pub mod Run
 pub mod RunLaws
+pub mod Part
+pub mod PartLaws
 pub mod Stream
 pub mod StreamLaws
 pub mod NextLaws

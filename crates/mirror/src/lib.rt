@@ -3,6 +3,7 @@ pub mod answer;
 pub mod half;
 pub mod live;
 pub mod panel;
+mod part;
 pub mod record;
 pub mod stream;
 pub mod totals;

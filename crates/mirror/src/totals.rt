@@ -5,6 +5,9 @@ ghost use Rattle.mirror.specs.Run.{raised, tallied, started, counted, co
 use crate::answer::Answer;
 use crate::live::Live;
 use crate::panel::Panel;
+use crate::part::added;
+use crate::part::bump;
+use crate::part::plus;
 use crate::record::Recorded;
 
 // The panel, the counts of answers 0 to 7, and the number of records.
@@ -73,8 +76,9 @@ impl Totals {
         let times = panel.times;
         let mut display = sheet.display;
         let mut pattern = sheet.pattern;
-        let mut counts = self.counts;
-        let mut records = self.records;
+        let counts = self.counts;
+        let mut part = [0u64; 8];
+        let mut records: u64 = 0;
         let mut live = Live::of(panel);
         let mut at: usize = 0;
         loop {
@@ -84,15 +88,15 @@ impl Totals {
                 return Consumed {
                     totals: Totals {
                         panel: live.panel(times, display, pattern),
-                        counts,
-                        records,
+                        counts: added(counts, part),
+                        records: plus(self.records, records),
                     },
                     at,
                 };
             }
             let answer = live.answer;
-            tally(&mut counts, answer);
-            records = raise(records);
+            bump(&mut part, answer);
+            records += 1;
             at += used;
         }
     }
