@@ -11,3 +11,4 @@ pub mod CellsLaws
 pub mod First
 pub mod FirstLaws
 pub mod TallyLaws
+pub mod OnesLaws

@@ -64,7 +64,7 @@ module _ (s : Sheet) (font : List ℕ) (dark : Bool) (p : ℕ) where
   shown-bare d h b u = rw (d, eq-eqb p cursorAt h, b, u)
 
 -- a row has no more lit dots than dots, a cell no more than its rows have
-pub few-dot : (row c : ℕ) → rowDot row c ≤ 1
+few-dot : (row c : ℕ) → rowDot row c ≤ 1
 few-dot row c = omega arith
 
 pub few-row : (rows : List ℕ) (i : ℕ) → sum (cellDot rows i) wide ≤ wide

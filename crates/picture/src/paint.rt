@@ -1,10 +1,11 @@
-// The painter. It goes by cells and tallies dot by dot as it paints.
+// The painter. It goes by cells, dot by dot, and tallies row by row as it paints.
 ghost use mathlib.Core.Path.{_≡_};
 ghost use Prim.Native.Nat.{_+_, _≤_, _<_};
 ghost use lib.ListN.{length};
 ghost use Rattle.picture.specs.Pattern.{tall, wide, fontSize, patternsOf};
 ghost use Rattle.picture.specs.Frame.{across, glass};
-ghost use Rattle.picture.specs.Shown.{PutsCell, PutsLine, PutsRow, shapeFrom, shownOf};
+ghost use Rattle.dots.specs.Table.{sum};
+ghost use Rattle.picture.specs.Shown.{PutsCell, PutsLine, PutsRow, rowDot, shapeFrom, shownOf};
 ghost use Rattle.picture.specs.Paint.{Paints};
 use crate::cursor::position;
 use crate::frame::FRAME_SIZE;
@@ -77,18 +78,23 @@ fn shown(
     rows
 }
 
+// How many of a row's five dots are lit.
+fn lit_in(dots: u8) -> usize
+    ensures { λ n. ⌜ n ≡ sum (rowDot dots) wide ⌝ }
+{
+    u8::count_ones(dots & 31) as usize
+}
+
 // Paints a row of a cell, whose leftmost dot is (row, left).
 fn put_row(frame: &mut [u8], row: usize, left: usize, dots: u8) -> usize
     requires { ⌜ (length (now frame) ≡ glass .size) × (row < glass .rows) × (left + wide ≤ glass .cols) ⌝ }
     ensures { λ n. ⌜ PutsRow dots row left (now (frame .entry)) (now (frame .exit)) n ⌝ }
 {
-    let mut lit = 0;
     for c in 0..WIDE {
         let v = (dots >> (WIDE - 1 - c)) & 1;
         put_dot(frame, row, left + c, v);
-        lit += v as usize;
     }
-    lit
+    lit_in(dots)
 }
 
 // Paints a cell, whose upper left dot is (top, left).

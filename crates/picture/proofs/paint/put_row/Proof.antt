@@ -1,17 +1,19 @@
--- After c dots the frame is c steps on, and `lit` their values added up.
-use Prim.Native.Nat.{ℕ, _+_, _-_, _%_}
-use mathlib.Core.Path.{_≡_, _∙_}
+-- After c dots the frame is c steps on.
+use Prim.Native.Nat.{ℕ, _+_, _-_, _%_, _≤_}
+use mathlib.Core.Path.{_≡_, sym, ap, _∙_}
 use mathlib.Core.List.{List}
 use native.Mathlib.Omega.{arith}
 use borrow.Author.Needs.{needs}
+use denote.Ref.{now}
+use lib.ListN.{length}
 use lib.Bits.{bitAnd, and-mask}
 use Rattle.dots.specs.Landing.{put}
-use Rattle.dots.specs.LandingLaws.{length-put}
-use Rattle.dots.specs.TallyLaws.{Through, through-start, through-next, through-end, through-long, through-few}
-use Rattle.picture.specs.Pattern.{wide}
+use Rattle.dots.specs.Table.{inOrder}
+use Rattle.dots.specs.TableLaws.{in-order-none, in-order-more}
+use Rattle.dots.specs.TallyLaws.{length-strip}
+use Rattle.picture.specs.Pattern.{wide, tall}
 use Rattle.picture.specs.Frame.{glass}
 use Rattle.picture.specs.Shown.{rowDot}
-use Rattle.picture.specs.ShownLaws.{few-dot}
 use Rattle.picture.proofs.paint.put_row.Statement.{statement}
 use Rattle.picture.proofs.paint.put_row.Tie as tie
 
@@ -21,14 +23,18 @@ step row left dots c f = put glass f row (left + c) (rowDot dots c)
 mask : (a : ℕ) → bitAnd a 1 ≡ a % 2
 mask a = and-mask a 1
 
+-- the frame keeps its length
+long : (row left dots c : ℕ) (f₀ f : List ℕ) → f ≡ inOrder (step row left dots) c f₀ → length f ≡ length f₀
+long row left dots c f₀ f e = ap length e ∙ length-strip glass tall c (rowDot dots) row left f₀
+
 abbrev Inv-loop : tie.InvT-loop
-Inv-loop frame₀ row left dots lit₀ c₀ frame lit c = Through (step row left dots) (rowDot dots) wide frame₀ frame lit c
+Inv-loop frame₀ row left dots c₀ frame c = (frame ≡ inOrder (step row left dots) c frame₀) × (c ≤ wide)
 
 abbrev μ-loop : tie.MeasureT-loop
-μ-loop frame₀ row left dots lit₀ c₀ frame lit c = wide - c
+μ-loop frame₀ row left dots c₀ frame c = wide - c
 
 loop-holds : tie.Need-loop-holds Inv-loop μ-loop
-loop-holds c = through-start _ _ _ _
+loop-holds c = (sym (in-order-none _ _), omega arith)
 
 sub-v : tie.Need-sub-v Inv-loop μ-loop
 sub-v c = search needs
@@ -47,16 +53,9 @@ add-put-dot c = search needs
 
 put-dot-requires : tie.Need-put-dot-requires Inv-loop μ-loop
 put-dot-requires c κs =
-    let T = c .before .before .loop .inv in
-    (through-long _ _ _ _ (λ i f. length-put glass f _ _ _) _ _ _ T ∙ c .before .before .before .before .pre .0, c .before .before .before .before .pre .1, omega arith, simp mask (omega arith))
-
-cast-lit : tie.Need-cast-lit Inv-loop μ-loop
-cast-lit c = simp mask (omega arith)
-
-add-lit : tie.Need-add-lit Inv-loop μ-loop
-add-lit c =
-    let l = c .before .before .before .before .before .loop in
-    simp mask (omega (arith, through-few _ _ _ _ 1 (λ i. few-dot _ i) _ (l .lit) (l .c) (l .inv)))
+    let l = c .before .before .loop in
+    let b = c .before .before .before .before in
+    (long (b .args .row) (b .args .left) (b .args .dots) (l .c) _ _ (l .inv .0) ∙ b .pre .0, b .pre .1, omega arith, simp mask (omega arith))
 
 add-c : tie.Need-add-c Inv-loop μ-loop
 add-c c = search needs
@@ -66,14 +65,25 @@ loop-less c = search needs
 
 loop-again : tie.Need-loop-again Inv-loop μ-loop
 loop-again c =
-    let at = c .before .before .before .before .before in
-    through-next _ _ _ _ _ _ _ _ _ (at .loop .inv) (omega arith) (record { frame = simp mask at (c .before .before .put-dot .ensures); tally = mask _ })
+    let l = c .before .before .before .before .before .loop in
+    let a = c .before .before .before .before .before .before .before .args in
+    (simp mask at (c .before .before .put-dot .ensures) ∙ ap (step (a .row) (a .left) (a .dots) (l .c)) (l .inv .0) ∙ sym (in-order-more (step (a .row) (a .left) (a .dots)) (l .c) _), omega arith)
+
+lit-in-requires : tie.Need-lit-in-requires Inv-loop μ-loop
+lit-in-requires c κs = search needs
 
 same-length : tie.Need-same-length Inv-loop μ-loop
-same-length c = through-long _ _ _ _ (λ i f. length-put glass f _ _ _) _ _ _ (c .before .loop .inv)
+same-length c =
+    let l = c .before .before .loop in
+    let a = c .before .before .before .before .args in
+    long (a .row) (a .left) (a .dots) (l .c) _ _ (l .inv .0)
 
 returns : tie.Need-returns Inv-loop μ-loop
-returns c = through-end _ _ _ _ _ _ _ (c .before .loop .inv) (omega arith)
+returns c =
+    let l = c .before .before .loop in
+    let a = c .before .before .before .before .args in
+    let e : l .c ≡ wide = omega arith in
+    record { frame = l .inv .0 ∙ ap (λ n. inOrder (step (a .row) (a .left) (a .dots)) n (now (a .frame))) e; tally = c .lit-in .ensures }
 
 pub put-row-spec : {M : Type 1} → statement M
 put-row-spec =
@@ -88,10 +98,9 @@ put-row-spec =
     shr-v
     add-put-dot
     put-dot-requires
-    cast-lit
-    add-lit
     add-c
     loop-less
     loop-again
+    lit-in-requires
     same-length
     returns)
