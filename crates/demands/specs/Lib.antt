@@ -16,6 +16,7 @@ pub mod CountsLaws
 pub mod Refuted
 pub mod Unique
 pub mod UniqueChip
+pub mod UniqueDesk
 pub mod UniqueLog
 pub mod UniqueMirror
 pub mod UniquePicture

@@ -1,8 +1,11 @@
 // The mirror program: reads a log on standard input, and prints the counts, the address and the codes.
 use chip::address::Address;
 use chip::address::DISPLAY_SIZE;
-use libc::STDIN_FILENO;
-use libc::STDOUT_FILENO;
+use desk::arguments::asked;
+use desk::input::Input;
+use desk::print::show;
+use desk::print::show_bytes;
+use desk::print::show_number;
 use mirror::panel::Panel;
 use mirror::stream::Run;
 use mirror::stream::Stream;
@@ -14,60 +17,29 @@ const LONG: u16 = 1640;
 
 const SHORT: u16 = 40;
 
-// A stream after a block, whether there may be more, and whether the reading failed.
+// What the whole of standard input leaves, and whether the reading failed.
 struct Fed {
     stream: Stream,
-    more: bool,
     failed: bool,
 }
 
-// Reads once, and feeds what came.
-fn feed_some(stream: Stream, block: &mut [u8]) -> Fed {
-    let got = libc::read(STDIN_FILENO, block);
-    if got < 0 {
-        os::fail(b"standard input");
-        return Fed {
-            stream,
-            more: false,
-            failed: true,
-        };
-    }
-    if got == 0 {
-        return Fed {
-            stream,
-            more: false,
-            failed: false,
-        };
-    }
-    let n = io::count(got, block);
-    Fed {
-        stream: stream.feed(&block[..n]),
-        more: true,
-        failed: false,
-    }
-}
-
-// A proved loop has to end, and nothing says that an input does: it counts its turns down from a number that no run
-// uses up.
 fn feed_all(start: Stream, block: &mut [u8]) -> Fed {
-    let mut fed = Fed {
-        stream: start,
-        more: true,
-        failed: false,
-    };
-    let mut turns = u64::MAX;
-    while turns > 0 && fed.more {
-        let stream = fed.stream;
-        fed = feed_some(stream, block);
-        turns -= 1;
+    let mut stream = start;
+    let mut input = Input::start();
+    while input.left > 0 {
+        input = input.read(block);
+        let n = input.len;
+        stream = stream.feed(&block[..n]);
     }
-    fed
+    Fed {
+        stream,
+        failed: input.failed,
+    }
 }
 
 fn line(label: &[u8], n: u64) {
-    io::write_all(STDOUT_FILENO, label);
-    io::print_decimal(STDOUT_FILENO, n);
-    io::write_all(STDOUT_FILENO, b"\n");
+    show_number(label, n);
+    show(b"\n");
 }
 
 fn print_counts(run: Run) {
@@ -86,26 +58,28 @@ fn print_counts(run: Run) {
 
 fn print_address(address: Address) {
     match address {
-        Address::Display(_) => io::write_all(STDOUT_FILENO, b"address "),
-        Address::Pattern(_) => io::write_all(STDOUT_FILENO, b"pattern "),
+        Address::Display(_) => show(b"address"),
+        Address::Pattern(_) => show(b"pattern"),
     }
-    ;
-    io::write_all(STDOUT_FILENO, &text::hex(address.number()));
-    io::write_all(STDOUT_FILENO, b"\n");
+    show_bytes(b" ", &[address.number()]);
 }
 
 fn print_codes(display: [u8; DISPLAY_SIZE]) {
-    io::write_all(STDOUT_FILENO, b"codes");
-    let mut i: usize = 0;
-    while i < DISPLAY_SIZE {
-        io::write_all(STDOUT_FILENO, b" ");
-        io::write_all(STDOUT_FILENO, &text::hex(display[i]));
-        i += 1;
-    }
-    io::write_all(STDOUT_FILENO, b"\n");
+    show(b"\ncodes");
+    show_bytes(b" ", &display);
+    show(b"\n");
 }
 
 fn main() {
+    let given = asked(
+        b"glazomir",
+        b"",
+        b"glazomir < LOG carries a log out on a fresh panel, and prints how many records there are, how many of\n\
+        them were answered each way, whether the log is cut, the address and the sixteen codes in memory.\n",
+    );
+    if !given.ok {
+        return;
+    }
     let mut block = io::large_buffer();
     let start = Stream::start(Panel::fresh(RESET, LONG, SHORT));
     let fed = feed_all(start, &mut block);

@@ -1,10 +1,10 @@
 -- Laws of the answers given one at a time: the next record alone is a part fed.
-use Prim.Native.Nat.{ℕ, _-_, _≤_}
+use Prim.Native.Nat.{ℕ, _+_, _-_, _≤_}
 use native.Mathlib.Omega.{arith}
 use mathlib.Core.Path.{_≡_, refl, sym, ap, _∙_}
 use mathlib.Core.Bool.{Bool, true, false, not}
 use mathlib.Core.List.{List, [], _∷_, _++_, append-nil}
-use lib.ListN.{length, length-take}
+use lib.ListN.{length, take, drop, length-take}
 use Rattle.laws.specs.Pick.{pick}
 use Rattle.log.specs.Frame.{frameOf, cutAt, wantsMore}
 use Rattle.log.specs.Frames.{Pieces, frames, tail}
@@ -117,3 +117,9 @@ next-within st part = by (st .over) (cutAt (filled (waitingBytes st) part))
     by true k = omega arith
     by false true = taken
     by false false = taken
+
+-- so what is read after it, in a part that is read from a place on, begins within the part
+pub next-reaches : (part : List ℕ) (at : ℕ) (st : Stream) (r : Next) → at ≤ length part → r ≡ nextOf st (take (length part - at) (drop at part)) → at + r .taken ≤ length part
+next-reaches part at st r h e =
+    let rest = take (length part - at) (drop at part) in
+    rw e (omega (arith, next-within st rest, length-take (length part - at) (drop at part)))

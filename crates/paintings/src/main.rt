@@ -2,8 +2,11 @@
 // (modulo a prime) and the last frame. Each painting has another shift, and every second one a dark blink.
 use chip::registers::Registers;
 use chip::sheet::Sheet;
-use libc::STDIN_FILENO;
-use libc::STDOUT_FILENO;
+use desk::arguments::asked;
+use desk::input::Input;
+use desk::print::show;
+use desk::print::show_bytes;
+use desk::print::show_number;
 use mirror::panel::Panel;
 use picture::frame::FRAME_SIZE;
 use picture::paint::Painted;
@@ -60,23 +63,26 @@ fn paint_all(panel: Panel, font: &[u8], frame: &mut [u8]) -> u64 {
     total
 }
 
-fn print_frame(frame: &[u8]) {
-    for i in 0..frame.len() {
-        io::write_all(STDOUT_FILENO, &text::hex(frame[i]));
-    }
-    io::write_all(STDOUT_FILENO, b"\n");
-}
-
 fn main() {
+    let given = asked(
+        b"paintings",
+        b"",
+        b"paintings < LOG paints the panel that a log of at most 65536 bytes leaves a hundred thousand times, for\n\
+        the benchmark, and prints the lit dots of all paintings, modulo 1000000007, and the last frame.\n",
+    );
+    if !given.ok {
+        return;
+    }
     let mut block = io::large_buffer();
-    let got = libc::read(STDIN_FILENO, &mut block);
-    let n = io::count(got, &block);
+    let input = Input::start().read(&mut block);
+    let n = input.len;
     let run = Panel::fresh(10000, 1640, 40).run(&block[..n]);
     let panel = run.panel;
     let font = trial_font();
     let mut frame = [0u8; FRAME_SIZE];
     let total = paint_all(panel, &font, &mut frame);
-    io::print_decimal(STDOUT_FILENO, total);
-    io::write_all(STDOUT_FILENO, b"\n");
-    print_frame(&frame);
+    show_number(b"", total);
+    show(b"\n");
+    show_bytes(b"", &frame);
+    show(b"\n");
 }

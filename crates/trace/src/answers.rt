@@ -1,15 +1,15 @@
 // A line for each record of standard input, as its answer comes.
 ghost use Prim.Native.Nat.{_<_};
-use crate::bytes::held;
-use libc::STDIN_FILENO;
-use libc::STDOUT_FILENO;
+use desk::bytes::held;
+use desk::input::Input;
+use desk::print::say;
+use desk::print::show;
 use mirror::stream::Reply;
 use mirror::stream::Stream;
 
-// The stream so far, whether there may be more, and whether the reading failed.
+// What the whole of standard input leaves, and whether the reading failed.
 pub struct Done {
     pub stream: Stream,
-    pub more: bool,
     pub failed: bool,
 }
 
@@ -24,7 +24,7 @@ fn room(lines: &[u8; LINES], at: usize) -> usize
     ensures { λ r. ⌜ r < 3996 ⌝ }
 {
     if LINES - LINE < at {
-        io::write_all(STDOUT_FILENO, lines);
+        show(lines);
         return 0;
     }
     at
@@ -46,7 +46,7 @@ fn put_line(lines: &mut [u8; LINES], at: usize, number: u8, byte: u8) -> usize {
 fn write_lines(lines: &[u8; LINES], at: usize) {
     let all: &[u8] = lines;
     let n = held(all, at);
-    io::write_all(STDOUT_FILENO, &all[..n]);
+    show(&all[..n]);
 }
 
 // Every record that a block makes whole.
@@ -72,55 +72,28 @@ fn answer_block(start: Stream, block: &[u8]) -> Stream {
     stream
 }
 
-// Reads once. A refused stream is only fed: its records are counted, and get no line.
-fn answer_some(stream: Stream, block: &mut [u8]) -> Done {
-    let got = libc::read(STDIN_FILENO, block);
-    if got < 0 {
-        os::fail(b"standard input");
-        return Done {
-            stream,
-            more: false,
-            failed: true,
-        };
-    }
-    if got == 0 {
-        return Done {
-            stream,
-            more: false,
-            failed: false,
-        };
-    }
-    let n = io::count(got, block);
+// A part of the log. A refused stream is only fed: its records are counted, and get no line.
+fn answer_part(stream: Stream, part: &[u8]) -> Stream {
     if stream.refused {
-        return Done {
-            stream: stream.feed(&block[..n]),
-            more: true,
-            failed: false,
-        };
+        return stream.feed(part);
     }
-    Done {
-        stream: answer_block(stream, &block[..n]),
-        more: true,
-        failed: false,
-    }
+    answer_block(stream, part)
 }
 
-// The whole of standard input. A proved loop has to end, and nothing says that an input does: it counts its turns down
-// from a number that no run uses up.
+// The whole of standard input.
 pub fn answer_all(start: Stream, block: &mut [u8]) -> Done {
     if start.refused {
-        io::write_all(STDOUT_FILENO, b"refused 10\n");
+        say(b"refused 10");
     }
-    let mut done = Done {
-        stream: start,
-        more: true,
-        failed: false,
-    };
-    let mut turns = u64::MAX;
-    while turns > 0 && done.more {
-        let stream = done.stream;
-        done = answer_some(stream, block);
-        turns -= 1;
+    let mut stream = start;
+    let mut input = Input::start();
+    while input.left > 0 {
+        input = input.read(block);
+        let n = input.len;
+        stream = answer_part(stream, &block[..n]);
     }
-    done
+    Done {
+        stream,
+        failed: input.failed,
+    }
 }

@@ -1,21 +1,20 @@
 // Prints everything that a test or a doubtful colleague wants to see of a log: docs/TRACE.md has the print.
 mod answers;
-mod bytes;
-mod options;
+mod numbers;
 mod panel_file;
 mod show;
 
 ghost use Prim.Native.Nat.{_<_};
 use answers::answer_all;
-use bytes::Bytes;
-use bytes::load;
+use desk::arguments::GROUPS;
+use desk::arguments::asked;
+use desk::bytes::Bytes;
+use desk::bytes::load;
+use desk::print::complain;
 use mirror::panel::Panel;
 use mirror::stream::Stream;
-use options::Options;
-use options::asked;
-use options::complain;
-use options::size_at;
-use options::times_at;
+use numbers::size_at;
+use numbers::times_at;
 use panel_file::PANEL_SIZE;
 use panel_file::fits;
 use panel_file::panel_of;
@@ -27,6 +26,17 @@ use std::num::wrapping_add_usize;
 
 // The largest frame to compare.
 const MOST: usize = 200;
+
+// The groups of arguments.
+const FONT: usize = 0;
+
+const TIMES: usize = 1;
+
+const PANEL: usize = 2;
+
+const FRAME: usize = 3;
+
+const FRAMES: usize = 4;
 
 // A panel to start from, or none where it could not be had; then a line was written.
 struct Started {
@@ -84,12 +94,12 @@ fn loaded_panel(place: usize, fresh: Panel) -> Started {
         return none;
     }
     if file.len != PANEL_SIZE {
-        complain(b"a panel file has 84 bytes");
+        complain(b"trace", b"a panel file has 84 bytes");
         return none;
     }
     let bytes = file.bytes;
     if !fits(bytes) {
-        complain(b"the panel file holds a byte that no panel has");
+        complain(b"trace", b"the panel file holds a byte that no panel has");
         return none;
     }
     Started {
@@ -98,8 +108,8 @@ fn loaded_panel(place: usize, fresh: Panel) -> Started {
     }
 }
 
-fn first_panel(options: Options) -> Started {
-    let timed = times_at(options.times);
+fn first_panel(places: [usize; GROUPS]) -> Started {
+    let timed = times_at(places[TIMES]);
     let times = timed.times;
     let fresh = Panel::fresh(times.reset, times.long, times.short);
     if !timed.ok {
@@ -108,13 +118,13 @@ fn first_panel(options: Options) -> Started {
             panel: fresh,
         };
     }
-    if options.panel == 0 {
+    if places[PANEL] == 0 {
         return Started {
             ok: true,
             panel: fresh,
         };
     }
-    loaded_panel(options.panel, fresh)
+    loaded_panel(places[PANEL], fresh)
 }
 
 // A frame to compare, in a file; an empty one where none is named.
@@ -133,7 +143,7 @@ fn frame_at(place: usize) -> Bytes {
     if file.len <= MOST {
         return file;
     }
-    complain(b"a frame to compare has at most 200 bytes");
+    complain(b"trace", b"a frame to compare has at most 200 bytes");
     Bytes { ok: false, ..file }
 }
 
@@ -169,27 +179,38 @@ fn print(panel: Panel, lent: Lent) {
 }
 
 fn main() {
-    let options = asked();
-    if !options.ok {
+    let given = asked(
+        b"trace",
+        b"font FILE, times R L S, panel FILE, frame N, frames A B",
+        b"trace < LOG prints a line for each record, its answer and byte; then the whole panel, its picture\n\
+        with the blink light and dark, and the first dot at which these two differ.\n\
+        font FILE    1920 bytes: codes 10h to FFh, eight rows each; without it, a trial font\n\
+        times R L S  reset, long and short time in microseconds; without it, 10000 1640 40\n\
+        panel FILE   84 bytes: the panel to start from; without it, a fresh one\n\
+        frame N      the size of the frames that are painted, 0 to 200; without it, 80\n\
+        frames A B   two files of at most 200 bytes, to compare in place of the two pictures\n",
+    );
+    if !given.ok {
         return;
     }
-    let size = size_at(options.frame);
+    let places = given.places;
+    let size = size_at(places[FRAME]);
     if !size.ok {
         return;
     }
-    let started = first_panel(options);
+    let started = first_panel(places);
     if !started.ok {
         return;
     }
-    let font = font_at(options.font);
+    let font = font_at(places[FONT]);
     if !font.ok {
         return;
     }
-    let a = frame_at(options.frames);
+    let a = frame_at(places[FRAMES]);
     if !a.ok {
         return;
     }
-    let b = frame_at(second_place(options.frames));
+    let b = frame_at(second_place(places[FRAMES]));
     if !b.ok {
         return;
     }
@@ -199,7 +220,7 @@ fn main() {
         Lent {
             font,
             size: size.value as usize,
-            named: options.frames != 0,
+            named: places[FRAMES] != 0,
             a,
             b,
         },

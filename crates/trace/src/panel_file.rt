@@ -1,6 +1,5 @@
 // A panel file: 84 bytes, as docs/TRACE.md lays them out.
 ghost use Prim.Native.Nat.{_<_};
-use crate::bytes::ROOM;
 use chip::address::Address;
 use chip::address::DISPLAY_SIZE;
 use chip::address::DisplayAddress;
@@ -8,6 +7,7 @@ use chip::address::PATTERN_SIZE;
 use chip::address::PatternAddress;
 use chip::registers::Registers;
 use chip::sheet::Sheet;
+use desk::bytes::ROOM;
 use mirror::half::Half;
 use mirror::panel::Panel;
 use mirror::panel::Times;

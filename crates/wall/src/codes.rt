@@ -1,9 +1,11 @@
 // The codes that the screen shows, in its own order, and the cursor.
-use crate::draw::Line;
 use chip::address::DISPLAY_SIZE;
 use chip::address::DisplayAddress;
 use chip::sheet::Sheet;
-use libc::STDOUT_FILENO;
+use desk::print::say;
+use desk::print::show;
+use desk::print::show_bytes;
+use desk::print::show_number;
 use picture::cursor::position;
 
 // The code that a screen position shows: that of the display address as many further on as the shift says.
@@ -12,6 +14,15 @@ fn code_at(sheet: Sheet, at: usize) -> u8 {
     let display = sheet.display;
     let place = (at % DISPLAY_SIZE + registers.shift as usize) % DISPLAY_SIZE;
     DisplayAddress(place as u8).read(&display)
+}
+
+// The codes from the left end of the screen to its right.
+pub fn shown(sheet: Sheet) -> [u8; DISPLAY_SIZE] {
+    let mut codes = [0u8; DISPLAY_SIZE];
+    for at in 0..DISPLAY_SIZE {
+        codes[at] = code_at(sheet, at);
+    }
+    codes
 }
 
 // A code as a character of text, a point where it is not a printable one.
@@ -25,27 +36,24 @@ fn character(code: u8) -> u8 {
     code
 }
 
-pub fn show_text(sheet: Sheet) {
-    let mut line = Line::empty();
+fn characters(codes: [u8; DISPLAY_SIZE]) -> [u8; DISPLAY_SIZE] {
+    let mut characters = [0u8; DISPLAY_SIZE];
     for at in 0..DISPLAY_SIZE {
-        line = line.with(character(code_at(sheet, at)));
+        characters[at] = character(codes[at]);
     }
-    io::write_all(STDOUT_FILENO, b"text |");
-    line.with(b'|').with(b'\n').write();
+    characters
 }
 
-fn with_hex(line: Line, code: u8) -> Line {
-    let digits = text::hex(code);
-    line.with(b' ').with(digits[0]).with(digits[1])
+pub fn show_text(codes: [u8; DISPLAY_SIZE]) {
+    show(b"text |");
+    show(&characters(codes));
+    show(b"|\n");
 }
 
-pub fn show_codes(sheet: Sheet) {
-    let mut line = Line::empty();
-    for at in 0..DISPLAY_SIZE {
-        line = with_hex(line, code_at(sheet, at));
-    }
-    io::write_all(STDOUT_FILENO, b"codes");
-    line.with(b'\n').write();
+pub fn show_codes(codes: [u8; DISPLAY_SIZE]) {
+    show(b"codes");
+    show_bytes(b" ", &codes);
+    show(b"\n");
 }
 
 // Where the cursor stands on the screen, or that none is shown.
@@ -53,10 +61,9 @@ pub fn show_cursor(sheet: Sheet) {
     let registers = sheet.registers;
     let address = registers.address;
     if registers.on & (registers.cursor | registers.blink) {
-        io::write_all(STDOUT_FILENO, b"cursor ");
-        io::print_decimal(STDOUT_FILENO, position(address, registers.shift) as u64);
-        io::write_all(STDOUT_FILENO, b"\n");
+        show_number(b"cursor ", position(address, registers.shift) as u64);
+        show(b"\n");
     } else {
-        io::write_all(STDOUT_FILENO, b"cursor off\n");
+        say(b"cursor off");
     }
 }

@@ -1,8 +1,9 @@
 // The dots of a frame, as lines for a terminal or as a bitmap.
 ghost use Prim.Native.Nat.{_<_};
-use crate::bytes::Bytes;
-use crate::bytes::held;
-use libc::STDOUT_FILENO;
+use desk::bytes::Bytes;
+use desk::bytes::held;
+use desk::print::say;
+use desk::print::show;
 use mirror::panel::Panel;
 use picture::frame::COLUMNS;
 use picture::frame::FRAME_SIZE;
@@ -14,13 +15,13 @@ use picture::paint::paint;
 const LINE_SIZE: usize = 256;
 
 // The first `len` of `bytes`.
-pub struct Line {
+struct Line {
     bytes: [u8; LINE_SIZE],
     len: usize,
 }
 
 impl Line {
-    pub fn empty() -> Line {
+    fn empty() -> Line {
         Line {
             bytes: [0; LINE_SIZE],
             len: 0,
@@ -28,7 +29,7 @@ impl Line {
     }
 
     // With one byte more, where there is room.
-    pub fn with(self, byte: u8) -> Line {
+    fn with(self, byte: u8) -> Line {
         let n = self.len;
         if LINE_SIZE <= n {
             return self;
@@ -43,10 +44,10 @@ impl Line {
         self.with(0xE2).with(0x96).with(last)
     }
 
-    pub fn write(self) {
+    fn write(self) {
         let bytes = self.bytes;
         let n = held(&bytes, self.len);
-        io::write_all(STDOUT_FILENO, &bytes[..n]);
+        show(&bytes[..n]);
     }
 }
 
@@ -61,8 +62,8 @@ pub fn painted(panel: Panel, font: Bytes, dark: bool) -> [u8; FRAME_SIZE] {
 
 // A portable bitmap: its rows are those of the frame, byte by byte.
 pub fn write_bitmap(frame: [u8; FRAME_SIZE]) {
-    io::write_all(STDOUT_FILENO, b"P4\n80 8\n");
-    io::write_all(STDOUT_FILENO, &frame);
+    show(b"P4\n80 8\n");
+    show(&frame);
 }
 
 // Whether a dot is lit.
@@ -114,10 +115,7 @@ fn draw_pair(frame: [u8; FRAME_SIZE], row: usize)
 }
 
 fn draw_edge() {
-    io::write_all(
-        STDOUT_FILENO,
-        b"+--------------------------------------------------------------------------------+\n",
-    );
+    say(b"+--------------------------------------------------------------------------------+");
 }
 
 // One line for each row of dots.

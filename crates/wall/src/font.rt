@@ -1,6 +1,6 @@
 // The font that the program has of its own, drawn in fonts/harbour.txt: codes 10h to FFh, eight rows each from the top, five
 // dots in the low bits.
-use crate::bytes::Bytes;
+use desk::bytes::Bytes;
 use picture::pattern::FONT_SIZE;
 
 const FONT: [u8; FONT_SIZE] = [

@@ -1,29 +1,29 @@
 // What the glass showed: reads a log on standard input, and draws the panel as it then stands.
-mod bytes;
 mod codes;
 mod draw;
 mod font;
-mod options;
 mod watch;
 
-use bytes::Bytes;
-use bytes::load;
 use codes::show_codes;
 use codes::show_cursor;
 use codes::show_text;
+use codes::shown;
+use desk::arguments::GROUPS;
+use desk::arguments::asked;
+use desk::bytes::Bytes;
+use desk::bytes::load;
+use desk::number::Number;
+use desk::number::number_at;
+use desk::print::complain;
 use draw::draw_pairs;
 use draw::draw_rows;
 use draw::painted;
 use draw::write_bitmap;
 use mirror::panel::Panel;
 use mirror::stream::Stream;
-use options::Options;
-use options::asked;
-use options::complain;
-use options::help;
-use options::time_at;
 use picture::frame::FRAME_SIZE;
 use picture::pattern::FONT_SIZE;
+use watch::FOREVER;
 use watch::watch_all;
 
 // The execution times, in microseconds.
@@ -32,6 +32,32 @@ const RESET: u16 = 10000;
 const LONG: u16 = 1640;
 
 const SHORT: u16 = 40;
+
+// The groups of arguments.
+const ASCII: usize = 0;
+
+const PBM: usize = 1;
+
+const DARK: usize = 2;
+
+const AT: usize = 3;
+
+const FONT: usize = 4;
+
+// The time to stop at.
+fn time_at(place: usize) -> Number {
+    if place == 0 {
+        return Number {
+            ok: true,
+            value: FOREVER,
+        };
+    }
+    let time = number_at(place, FOREVER);
+    if !time.ok {
+        complain(b"wall", b"at takes a time of at most 281474976710656");
+    }
+    time
+}
 
 // The font that an argument names; the program's own where there is none.
 fn font_at(place: usize) -> Bytes {
@@ -45,7 +71,7 @@ fn font_at(place: usize) -> Bytes {
     if file.len == FONT_SIZE {
         return file;
     }
-    complain(b"a font has 1920 bytes");
+    complain(b"wall", b"a font has 1920 bytes");
     Bytes { ok: false, ..file }
 }
 
@@ -56,13 +82,14 @@ fn show_glass(frame: [u8; FRAME_SIZE], panel: Panel, ascii: bool) {
     } else {
         draw_pairs(frame);
     }
-    show_text(sheet);
-    show_codes(sheet);
+    let codes = shown(sheet);
+    show_text(codes);
+    show_codes(codes);
     show_cursor(sheet);
 }
 
 // Watches the log up to the time, then shows what the glass did.
-fn show(options: Options, until: u64, font: Bytes) {
+fn show_all(places: [usize; GROUPS], until: u64, font: Bytes) {
     let mut block = io::large_buffer();
     let start = Stream::start(Panel::fresh(RESET, LONG, SHORT));
     let seen = watch_all(start, until, &mut block);
@@ -72,30 +99,41 @@ fn show(options: Options, until: u64, font: Bytes) {
     let stream = seen.stream;
     let run = stream.end();
     let panel = run.panel;
-    let frame = painted(panel, font, options.dark != 0);
-    if options.pbm != 0 {
+    let frame = painted(panel, font, places[DARK] != 0);
+    if places[PBM] != 0 {
         write_bitmap(frame);
     } else {
-        show_glass(frame, panel, options.ascii != 0);
+        show_glass(frame, panel, places[ASCII] != 0);
     }
 }
 
 fn main() {
-    let options = asked();
-    if !options.ok {
+    let given = asked(
+        b"wall",
+        b"ascii, pbm, dark, at TIME, font FILE",
+        b"wall < LOG draws what the glass showed at the end of the log: 8 rows of 80 dots, two to\n\
+        a line, then the sixteen codes shown, as text and as numbers, and the cursor's position.\n\
+        ascii      a line for each row of dots, of # and .\n\
+        pbm        a portable bitmap of the dots, and nothing else\n\
+        dark       the blink is dark; without it, light\n\
+        at TIME    the glass at this time, in microseconds, at most 281474976710656\n\
+        font FILE  1920 bytes: codes 10h to FFh, eight rows each; without it, a font of its own\n",
+    );
+    if !given.ok {
         return;
     }
-    if options.help != 0 {
-        help();
+    let places = given.places;
+    if (places[ASCII] != 0) & (places[PBM] != 0) {
+        complain(b"wall", b"takes ascii or pbm, not both");
         return;
     }
-    let until = time_at(options.at);
+    let until = time_at(places[AT]);
     if !until.ok {
         return;
     }
-    let font = font_at(options.font);
+    let font = font_at(places[FONT]);
     if !font.ok {
         return;
     }
-    show(options, until.value, font);
+    show_all(places, until.value, font);
 }

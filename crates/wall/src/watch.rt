@@ -1,5 +1,5 @@
 // The log as it comes, up to a time.
-use libc::STDIN_FILENO;
+use desk::input::Input;
 use mirror::stream::Next;
 use mirror::stream::Reply;
 use mirror::stream::Stream;
@@ -7,7 +7,7 @@ use mirror::stream::Stream;
 // No record's time is later.
 pub const FOREVER: u64 = 281474976710656;
 
-// The stream so far, whether there may be more, and whether the reading failed.
+// The stream so far, whether the time may still be ahead, and whether the reading failed.
 pub struct Seen {
     pub stream: Stream,
     pub more: bool,
@@ -64,48 +64,34 @@ fn watch_block(start: Stream, until: u64, block: &[u8]) -> Seen {
     }
 }
 
-// Reads once.
-fn watch_some(stream: Stream, until: u64, block: &mut [u8]) -> Seen {
-    let got = libc::read(STDIN_FILENO, block);
-    if got < 0 {
-        os::fail(b"standard input");
-        return Seen {
-            stream,
-            more: false,
-            failed: true,
-        };
-    }
-    if got == 0 {
-        return Seen {
-            stream,
-            more: false,
-            failed: false,
-        };
-    }
-    let n = io::count(got, block);
+// A part of the log. Where no time is asked for, no answer is looked at.
+fn watch_part(stream: Stream, until: u64, part: &[u8]) -> Seen {
     if until == FOREVER {
         return Seen {
-            stream: stream.feed(&block[..n]),
+            stream: stream.feed(part),
             more: true,
             failed: false,
         };
     }
-    watch_block(stream, until, &block[..n])
+    watch_block(stream, until, part)
 }
 
-// The whole of standard input, or as much as there is up to the time. A proved loop has to end, and nothing says that an
-// input does: it counts its turns down from a number that no run uses up.
+// The whole of standard input, or as much as there is up to the time.
 pub fn watch_all(start: Stream, until: u64, block: &mut [u8]) -> Seen {
     let mut seen = Seen {
         stream: start,
         more: true,
         failed: false,
     };
-    let mut turns = u64::MAX;
-    while turns > 0 && seen.more {
+    let mut input = Input::start();
+    while input.left > 0 && seen.more {
+        input = input.read(block);
+        let n = input.len;
         let stream = seen.stream;
-        seen = watch_some(stream, until, block);
-        turns -= 1;
+        seen = watch_part(stream, until, &block[..n]);
     }
-    seen
+    Seen {
+        failed: input.failed,
+        ..seen
+    }
 }

@@ -1,4 +1,3 @@
-use Prim.Native.Nat.{_-_}
 use mathlib.Core.Path.{_≡_}
 use lib.ListN.{length}
 use borrow.Author.Needs.{needs}
@@ -6,19 +5,28 @@ use Rattle.glazomir.proofs.feed_all.Statement.{statement}
 use Rattle.glazomir.proofs.feed_all.Tie as tie
 
 abbrev Inv-loop : tie.InvT-loop
-Inv-loop block₀ fed₀ turns₀ block fed turns = (length block ≡ length block₀)
+Inv-loop block₀ stream₀ input₀ block stream input = length block ≡ length block₀
 
 abbrev μ-loop : tie.MeasureT-loop
-μ-loop block₀ fed₀ turns₀ block fed turns = turns
+μ-loop block₀ stream₀ input₀ block stream input = input .left
+
+start-requires : tie.Need-start-requires Inv-loop μ-loop
+start-requires c κs = search needs
 
 loop-holds : tie.Need-loop-holds Inv-loop μ-loop
 loop-holds c = search needs
 
-feed-some-requires : tie.Need-feed-some-requires Inv-loop μ-loop
-feed-some-requires c κs = search needs
+read-requires : tie.Need-read-requires Inv-loop μ-loop
+read-requires c κs = search needs
 
-sub-turns : tie.Need-sub-turns Inv-loop μ-loop
-sub-turns c = search needs
+slice-reshare-prefix-feed : tie.Need-slice-reshare-prefix-feed Inv-loop μ-loop
+slice-reshare-prefix-feed c = search needs
+
+slice-aggregate-feed : tie.Need-slice-aggregate-feed Inv-loop μ-loop
+slice-aggregate-feed c = search needs
+
+feed-requires : tie.Need-feed-requires Inv-loop μ-loop
+feed-requires c κs = search needs
 
 loop-less : tie.Need-loop-less Inv-loop μ-loop
 loop-less c = search needs
@@ -32,24 +40,19 @@ same-length c = search needs
 returns : tie.Need-returns Inv-loop μ-loop
 returns c = search needs
 
-same-length-2 : tie.Need-same-length-2 Inv-loop μ-loop
-same-length-2 c = search needs
-
-returns-2 : tie.Need-returns-2 Inv-loop μ-loop
-returns-2 c = search needs
-
 pub feed-all-spec : {M : Type 1} → statement M
 feed-all-spec =
     tie.close
     (tie.spec
     Inv-loop
     μ-loop
+    start-requires
     loop-holds
-    feed-some-requires
-    sub-turns
+    read-requires
+    slice-reshare-prefix-feed
+    slice-aggregate-feed
+    feed-requires
     loop-less
     loop-again
     same-length
-    returns
-    same-length-2
-    returns-2)
+    returns)

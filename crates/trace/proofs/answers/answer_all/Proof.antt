@@ -5,25 +5,34 @@ use Rattle.trace.proofs.answers.answer_all.Statement.{statement}
 use Rattle.trace.proofs.answers.answer_all.Tie as tie
 
 abbrev Inv-loop : tie.InvT-loop
-Inv-loop block₀ done₀ turns₀ block done turns = (length block ≡ length block₀)
+Inv-loop block₀ stream₀ input₀ block stream input = length block ≡ length block₀
 
 abbrev μ-loop : tie.MeasureT-loop
-μ-loop block₀ done₀ turns₀ block done turns = turns
+μ-loop block₀ stream₀ input₀ block stream input = input .left
 
-slice-aggregate-write-all : tie.Need-slice-aggregate-write-all Inv-loop μ-loop
-slice-aggregate-write-all c = search needs
+slice-aggregate-say : tie.Need-slice-aggregate-say Inv-loop μ-loop
+slice-aggregate-say c = search needs
 
-write-all-requires : tie.Need-write-all-requires Inv-loop μ-loop
-write-all-requires c κs = search needs
+say-requires : tie.Need-say-requires Inv-loop μ-loop
+say-requires c κs = search needs
+
+start-requires : tie.Need-start-requires Inv-loop μ-loop
+start-requires c κs = search needs
 
 loop-holds : tie.Need-loop-holds Inv-loop μ-loop
 loop-holds c = search needs
 
-answer-some-requires : tie.Need-answer-some-requires Inv-loop μ-loop
-answer-some-requires c κs = search needs
+read-requires : tie.Need-read-requires Inv-loop μ-loop
+read-requires c κs = search needs
 
-sub-turns : tie.Need-sub-turns Inv-loop μ-loop
-sub-turns c = search needs
+slice-reshare-prefix-answer-part : tie.Need-slice-reshare-prefix-answer-part Inv-loop μ-loop
+slice-reshare-prefix-answer-part c = search needs
+
+slice-aggregate-answer-part : tie.Need-slice-aggregate-answer-part Inv-loop μ-loop
+slice-aggregate-answer-part c = search needs
+
+answer-part-requires : tie.Need-answer-part-requires Inv-loop μ-loop
+answer-part-requires c κs = search needs
 
 loop-less : tie.Need-loop-less Inv-loop μ-loop
 loop-less c = search needs
@@ -37,26 +46,21 @@ same-length c = search needs
 returns : tie.Need-returns Inv-loop μ-loop
 returns c = search needs
 
-same-length-2 : tie.Need-same-length-2 Inv-loop μ-loop
-same-length-2 c = search needs
-
-returns-2 : tie.Need-returns-2 Inv-loop μ-loop
-returns-2 c = search needs
-
 pub answer-all-spec : {M : Type 1} → statement M
 answer-all-spec =
     tie.close
     (tie.spec
     Inv-loop
     μ-loop
-    slice-aggregate-write-all
-    write-all-requires
+    slice-aggregate-say
+    say-requires
+    start-requires
     loop-holds
-    answer-some-requires
-    sub-turns
+    read-requires
+    slice-reshare-prefix-answer-part
+    slice-aggregate-answer-part
+    answer-part-requires
     loop-less
     loop-again
     same-length
-    returns
-    same-length-2
-    returns-2)
+    returns)

@@ -5,19 +5,28 @@ use Rattle.wall.proofs.watch.watch_all.Statement.{statement}
 use Rattle.wall.proofs.watch.watch_all.Tie as tie
 
 abbrev Inv-loop : tie.InvT-loop
-Inv-loop until block₀ seen₀ turns₀ block seen turns = length block ≡ length block₀
+Inv-loop until block₀ seen₀ input₀ block seen input = length block ≡ length block₀
 
 abbrev μ-loop : tie.MeasureT-loop
-μ-loop until block₀ seen₀ turns₀ block seen turns = turns
+μ-loop until block₀ seen₀ input₀ block seen input = input .left
+
+start-requires : tie.Need-start-requires Inv-loop μ-loop
+start-requires c κs = search needs
 
 loop-holds : tie.Need-loop-holds Inv-loop μ-loop
 loop-holds c = search needs
 
-watch-some-requires : tie.Need-watch-some-requires Inv-loop μ-loop
-watch-some-requires c κs = search needs
+read-requires : tie.Need-read-requires Inv-loop μ-loop
+read-requires c κs = search needs
 
-sub-turns : tie.Need-sub-turns Inv-loop μ-loop
-sub-turns c = search needs
+slice-reshare-prefix-watch-part : tie.Need-slice-reshare-prefix-watch-part Inv-loop μ-loop
+slice-reshare-prefix-watch-part c = search needs
+
+slice-aggregate-watch-part : tie.Need-slice-aggregate-watch-part Inv-loop μ-loop
+slice-aggregate-watch-part c = search needs
+
+watch-part-requires : tie.Need-watch-part-requires Inv-loop μ-loop
+watch-part-requires c κs = search needs
 
 loop-less : tie.Need-loop-less Inv-loop μ-loop
 loop-less c = search needs
@@ -31,24 +40,19 @@ same-length c = search needs
 returns : tie.Need-returns Inv-loop μ-loop
 returns c = search needs
 
-same-length-2 : tie.Need-same-length-2 Inv-loop μ-loop
-same-length-2 c = search needs
-
-returns-2 : tie.Need-returns-2 Inv-loop μ-loop
-returns-2 c = search needs
-
 pub watch-all-spec : {M : Type 1} → statement M
 watch-all-spec =
     tie.close
     (tie.spec
     Inv-loop
     μ-loop
+    start-requires
     loop-holds
-    watch-some-requires
-    sub-turns
+    read-requires
+    slice-reshare-prefix-watch-part
+    slice-aggregate-watch-part
+    watch-part-requires
     loop-less
     loop-again
     same-length
-    returns
-    same-length-2
-    returns-2)
+    returns)

@@ -1,22 +1,11 @@
-use Prim.Native.Nat.{ℕ, _+_, _-_, _≤_}
-use mathlib.Core.Path.{_≡_}
+use Prim.Native.Nat.{_≤_}
 use native.Mathlib.Omega.{arith}
-use mathlib.Core.List.{List}
-use lib.ListN.{length, take, drop, length-take}
+use lib.ListN.{length}
 use denote.Ref.{now}
-use Rattle.mirror.specs.NextLaws.{next-within}
-use Rattle.mirror.specs.Stream.{nextOf}
-use Rattle.mirror.specs.declared.stream.Stream.{Stream}
-use Rattle.mirror.specs.declared.stream.Next.{Next}
+use Rattle.mirror.specs.NextLaws.{next-reaches}
 use borrow.Author.Needs.{needs}
 use Rattle.wall.proofs.watch.watch_block.Statement.{statement}
 use Rattle.wall.proofs.watch.watch_block.Tie as tie
-
--- what is read after the next record begins within the block
-reached : (block : List ℕ) (at : ℕ) (st : Stream) (r : Next) → at ≤ length block → r ≡ nextOf st (take (length block - at) (drop at block)) → at + r .taken ≤ length block
-reached block at st r h e =
-    let rest = take (length block - at) (drop at block) in
-    rw e (omega (arith, next-within st rest, length-take (length block - at) (drop at block)))
 
 abbrev Inv-loop : tie.InvT-loop
 Inv-loop until block stream₀ more₀ at₀ turns₀ stream more at turns = at ≤ length block
@@ -46,7 +35,7 @@ add-at : tie.Need-add-at Inv-loop μ-loop
 add-at c =
     let n = c .before .before .before .before in
     let b = n .before .before .before in
-    omega (arith, b .before .before .good, reached (now (b .before .before .args .block)) (b .loop .at) (b .loop .stream) (n .next .result) (b .loop .inv) (n .next .ensures))
+    omega (arith, b .before .before .good, next-reaches (now (b .before .before .args .block)) (b .loop .at) (b .loop .stream) (n .next .result) (b .loop .inv) (n .next .ensures))
 
 answered-requires : tie.Need-answered-requires Inv-loop μ-loop
 answered-requires c κs = search needs
@@ -61,7 +50,7 @@ loop-again : tie.Need-loop-again Inv-loop μ-loop
 loop-again c =
     let n = c .before .before .before .before .before .before in
     let b = n .before .before .before in
-    reached (now (b .before .before .args .block)) (b .loop .at) (b .loop .stream) (n .next .result) (b .loop .inv) (n .next .ensures)
+    next-reaches (now (b .before .before .args .block)) (b .loop .at) (b .loop .stream) (n .next .result) (b .loop .inv) (n .next .ensures)
 
 returns : tie.Need-returns Inv-loop μ-loop
 returns c = search needs

@@ -1,0 +1,60 @@
+// The numbers among the arguments: the three times, and the size of a frame.
+use desk::number::Number;
+use desk::number::number_at;
+use desk::print::complain;
+use mirror::panel::Times;
+use picture::frame::FRAME_SIZE;
+use std::num::wrapping_add_usize;
+
+pub struct Timed {
+    pub ok: bool,
+    pub times: Times,
+}
+
+// The three times.
+pub fn times_at(place: usize) -> Timed {
+    let usual = Times {
+        reset: 10000,
+        long: 1640,
+        short: 40,
+    };
+    if place == 0 {
+        return Timed {
+            ok: true,
+            times: usual,
+        };
+    }
+    let reset = number_at(place, 65535);
+    let long = number_at(wrapping_add_usize(place, 1), 65535);
+    let short = number_at(wrapping_add_usize(place, 2), 65535);
+    if reset.ok & long.ok & short.ok {
+        return Timed {
+            ok: true,
+            times: Times {
+                reset: reset.value as u16,
+                long: long.value as u16,
+                short: short.value as u16,
+            },
+        };
+    }
+    complain(b"trace", b"times takes three numbers of at most 65535");
+    Timed {
+        ok: false,
+        times: usual,
+    }
+}
+
+// The size of the frames that the painter is lent.
+pub fn size_at(place: usize) -> Number {
+    if place == 0 {
+        return Number {
+            ok: true,
+            value: FRAME_SIZE as u64,
+        };
+    }
+    let size = number_at(place, 200);
+    if !size.ok {
+        complain(b"trace", b"frame takes a number of at most 200");
+    }
+    size
+}

@@ -1,0 +1,51 @@
+use Prim.Native.Nat.{_-_, _≤_}
+use mathlib.Core.Path.{_≡_}
+use lib.ListN.{length}
+use borrow.Author.Needs.{needs}
+use Rattle.wall.proofs.codes.characters.Statement.{statement}
+use Rattle.wall.proofs.codes.characters.Tie as tie
+
+abbrev Inv-loop : tie.InvT-loop
+Inv-loop codes characters₀ at₀ characters at = (length codes ≡ 16) × (length characters ≡ 16) × (at ≤ 16)
+
+abbrev μ-loop : tie.MeasureT-loop
+μ-loop codes characters₀ at₀ characters at = 16 - at
+
+loop-holds : tie.Need-loop-holds Inv-loop μ-loop
+loop-holds c = search needs
+
+array-read-character : tie.Need-array-read-character Inv-loop μ-loop
+array-read-character c = search needs
+
+character-requires : tie.Need-character-requires Inv-loop μ-loop
+character-requires c κs = search needs
+
+array-write-characters : tie.Need-array-write-characters Inv-loop μ-loop
+array-write-characters c = search needs
+
+add-at : tie.Need-add-at Inv-loop μ-loop
+add-at c = search needs
+
+loop-less : tie.Need-loop-less Inv-loop μ-loop
+loop-less c = search needs
+
+loop-again : tie.Need-loop-again Inv-loop μ-loop
+loop-again c = search needs
+
+returns : tie.Need-returns Inv-loop μ-loop
+returns c = search needs
+
+pub characters-spec : {M : Type 1} → statement M
+characters-spec =
+    tie.close
+    (tie.spec
+    Inv-loop
+    μ-loop
+    loop-holds
+    array-read-character
+    character-requires
+    array-write-characters
+    add-at
+    loop-less
+    loop-again
+    returns)
