@@ -2,11 +2,13 @@
 //! and the comparison of the model with the built programs.
 //!
 //! The model: `log`, `chip`, `panel`, `picture`, `prints`, `demands`, with
-//! `panel_file` and `arguments` for what a run is lent, and `cases`.
+//! `panel_file` and `arguments` for what a run is lent, and `cases`. The
+//! report: `report`, and `again` for what was written again.
 //! The trials: `random`, `lend`, `sender`, `generator`.
 //! The comparison: `start`, `shrink`, `compare`; `reach` lists what the trials
 //! must reach, and `observe` watches the model reach it.
 
+mod again;
 mod arguments;
 mod cases;
 mod chip;
@@ -22,6 +24,7 @@ mod picture;
 mod prints;
 mod random;
 mod reach;
+mod report;
 mod sender;
 mod shrink;
 mod start;
@@ -40,6 +43,7 @@ second: a model of the mirror, and its comparison with the built programs
 
   second glazomir < LOG          print what the mirror program should print
   second trace [WORDS] < LOG     print what trace should print
+  second report < LOG            print what report should print
   second cases                   check the rules' cases A to M and the example
   second reach [--logs N] [--seed S]
                                  print what the generated logs reach
@@ -64,6 +68,7 @@ fn main() -> ExitCode {
         Some("--help" | "help") => print_all(HELP).map(|()| true),
         Some("glazomir") => read_log().and_then(|log| print_all(&prints::glazomir(&log))).map(|()| true),
         Some("trace") => trace(&words[1..]).map(|()| true),
+        Some("report") => report(&words[1..]).map(|()| true),
         Some("cases") => Ok(closing(run_cases(), 0, 0)),
         Some("reach") => options(&words[1..]).and_then(|options| reach(&options)),
         Some("compare") => options(&words[1..]).and_then(|options| compare(&options)),
@@ -94,6 +99,26 @@ fn read_log() -> Result<Vec<u8>, String> {
 fn trace(words: &[String]) -> Result<(), String> {
     let lent = arguments::read(words)?;
     print_all(&prints::trace(&lent, &read_log()?))
+}
+
+const REPORT_HELP: &str = "\
+second report < LOG: the records that were not carried out, a line each, and
+how often ignored data was written again; docs/REPORT.md says more
+";
+
+/// `--help` is the only word there is.
+fn report(words: &[String]) -> Result<(), String> {
+    match words {
+        [] => {}
+        [word] if word == "--help" => return print_all(REPORT_HELP),
+        _ => return Err("report takes --help alone, or nothing".to_string()),
+    }
+    let mut log = Vec::new();
+    if let Err(error) = io::stdin().read_to_end(&mut log) {
+        print_all(&report::print_broken_off(&log))?;
+        return Err(error.to_string());
+    }
+    print_all(&report::print(&log))
 }
 
 /// What the commands that compare are told.
