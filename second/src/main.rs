@@ -44,7 +44,7 @@ second: a model of the mirror, and its comparison with the built programs
   second glazomir < LOG          print what the mirror program should print
   second trace [WORDS] < LOG     print what trace should print
   second report < LOG            print what report should print
-  second cases                   check the rules' cases A to M and the example
+  second cases                   check cases A to M and the pages' examples
   second reach [--logs N] [--seed S]
                                  print what the generated logs reach
   second compare --glazomir CMD --trace CMD [--logs N] [--seed S]
