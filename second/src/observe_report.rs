@@ -61,19 +61,19 @@ fn settled(reach: &mut Reach, report: &Report, line: &Line, how: &str) {
     time(reach, line.time);
 }
 
+/// The ends of the ranges that have a meaning of their own.
+const CODE_ENDS: [u8; 18] = [
+    0x00, 0x01, 0x02, 0x03, 0x04, 0x07, 0x08, 0x0F, 0x10, 0x17, 0x18, 0x1F, 0x20, 0x3F, 0x40, 0x7F, 0x80, 0xFF,
+];
+const DATA_ENDS: [u8; 7] = [0x00, 0x1F, 0x20, 0x21, 0x7E, 0x7F, 0xFF];
+
 fn meaning(reach: &mut Reach, line: &Line) {
     let Byte::Whole(code) = line.byte else { return };
-    let (data, meaning) = (line.what == "data-write", &line.meaning);
-    match (data, code) {
-        (false, 0x00..=0x04 | 0x07 | 0x08 | 0x0F | 0x10 | 0x17 | 0x18 | 0x1F) => {
-            note(reach, &format!("code {code:02X}h {meaning}"));
-        }
-        (false, 0x20 | 0x3F | 0x40 | 0x7F | 0x80 | 0xFF) => note(reach, &format!("code {code:02X}h {meaning}")),
-        (true, 0x00 | 0x1F | 0x20 | 0x21 | 0x7E | 0x7F | 0xFF) => {
-            note(reach, &format!("data {code:02X}h {meaning}"));
-        }
-        _ => {}
-    }
+    let (sort, ends) = match line.what {
+        "data-write" => ("data", &DATA_ENDS[..]),
+        _ => ("code", &CODE_ENDS[..]),
+    };
+    note_if(reach, ends.contains(&code), &format!("{sort} {code:02X}h {}", line.meaning));
 }
 
 fn time(reach: &mut Reach, time: Option<u64>) {
