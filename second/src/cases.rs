@@ -1,4 +1,5 @@
-//! The rules' own cases A to M and the four-record example.
+//! The rules' own cases A to M, the report's example and the sample night, and
+//! the four-record example.
 
 use crate::arguments;
 use crate::chip::{Counter, DisplayAddress, PatternAddress, Sheet};
@@ -6,6 +7,7 @@ use crate::log;
 use crate::panel::{self, Panel, Run, Times};
 use crate::picture::{self, Painting};
 use crate::prints;
+use crate::report;
 
 pub struct Case {
     pub name: &'static str,
@@ -47,6 +49,7 @@ fn case(name: &'static str, log: Vec<u8>, holds: fn(&Panel, &Run, &[u8]) -> bool
 pub fn all() -> Vec<Case> {
     let mut all = busy_and_halves();
     all.extend(steps());
+    all.extend(reports());
     all.extend(pictures_and_prints());
     all
 }
@@ -105,6 +108,26 @@ fn steps() -> Vec<Case> {
     ]
 }
 
+/// The night in question, as samples/night.py makes it.
+const NIGHT: &[u8] = include_bytes!("../../samples/night.log");
+
+fn reports() -> Vec<Case> {
+    let example = at_times(&[
+        (100, INSTRUCTION, 1), (200, DATA, 0x57), (1_739, DATA, 0x57), (1_740, INSTRUCTION, 0),
+        (1_741, DATA, 0x57), (1_700, STATUS, 0),
+    ]);
+    vec![
+        case("the report's example", example, |_, _, log| report::print(log) == REPORT_EXAMPLE),
+        case("the sample night", NIGHT.to_vec(), |_, _, log| {
+            let print = report::print(log);
+            let answers: Vec<_> = print.lines().filter_map(|line| line.split('\t').nth(4)).collect();
+            let counted = ["ignored", "torn", "back", "bad", "none"]
+                .map(|answer| answers.iter().filter(|&&other| other == answer).count());
+            counted == [16, 0, 1, 1, 1] && print.ends_with(NIGHT_SUMMARY)
+        }),
+    ]
+}
+
 fn pictures_and_prints() -> Vec<Case> {
     let four = at_times(&[(100, INSTRUCTION, 1), (200, DATA, 0x57), (1_740, DATA, 0x57), (1_780, STATUS, 0)]);
     vec![
@@ -130,6 +153,45 @@ fn painted(panel: &Panel) -> (Painting, Vec<u8>) {
     let painting = picture::paint(panel, &picture::trial_font(), false, &mut frame);
     (painting, frame)
 }
+
+const REPORT_EXAMPLE: &str = "\
+record	second	time	clock	answer	what	byte	meaning
+2	-	200	00:00:00.000200	ignored	data-write	57	W
+3	-	1739	00:00:00.001739	ignored	data-write	57	W
+4	-	1740	00:00:00.001740	none	instruction-write	00	nothing
+6	-	1700	00:00:00.001700	back	status-read	-	-
+summary	records	6
+summary	taken	2
+summary	held	0
+summary	status	0
+summary	ignored	2
+summary	torn	0
+summary	back	1
+summary	bad	0
+summary	none	1
+summary	cut	0
+summary	written-again	1
+summary	first-written-again	200	00:00:00.000200
+summary	last-written-again	200	00:00:00.000200
+summary	runs-too-long	0
+";
+
+const NIGHT_SUMMARY: &str = "\
+summary	records	423
+summary	taken	126
+summary	held	0
+summary	status	278
+summary	ignored	16
+summary	torn	0
+summary	back	1
+summary	bad	1
+summary	none	1
+summary	cut	0
+summary	written-again	1
+summary	first-written-again	11520000100	03:12:00.000100
+summary	last-written-again	11520000100	03:12:00.000100
+summary	runs-too-long	0
+";
 
 const FOUR_GLAZOMIR: &str = "\
 records 4

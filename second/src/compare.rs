@@ -7,9 +7,11 @@ use crate::generator::{self, Trial};
 use crate::lend::Word;
 use crate::log;
 use crate::observe;
+use crate::observe_report;
 use crate::panel::Panel;
 use crate::prints::{self, hex};
 use crate::reach::Reach;
+use crate::report;
 use crate::shrink;
 use crate::start::{self, Feed, Output};
 use std::path::Path;
@@ -25,12 +27,24 @@ const WORKERS: usize = 2;
 pub struct Programs {
     pub glazomir: Vec<String>,
     pub trace: Vec<String>,
+    /// Empty where the report is not compared.
+    pub report: Vec<String>,
 }
 
 #[derive(Clone, Copy, Debug, PartialEq)]
 pub enum Which {
     Glazomir,
     Trace,
+    Report,
+}
+
+/// What a program should do.
+enum Expected {
+    Print(String),
+    /// This print and then one line on standard error, for this reason.
+    Complaint(String, &'static str),
+    /// A print in the program's own words.
+    OwnWords,
 }
 
 /// One comparison: a trial, a program, and how it is fed.
@@ -67,6 +81,8 @@ pub struct Tally {
     pub records: AtomicU64,
     pub comparisons: AtomicU64,
     pub demands: AtomicU64,
+    /// Generated logs that went through the report.
+    pub reported: AtomicU64,
     pub reach: Mutex<Reach>,
     findings: Mutex<Vec<Finding>>,
     found: AtomicBool,
@@ -79,6 +95,7 @@ impl Tally {
             records: AtomicU64::new(0),
             comparisons: AtomicU64::new(0),
             demands: AtomicU64::new(0),
+            reported: AtomicU64::new(0),
             reach: Mutex::new(Reach::new()),
             findings: Mutex::new(Vec::new()),
             found: AtomicBool::new(false),
@@ -96,7 +113,15 @@ impl Tally {
 }
 
 /// The comparisons that do not come from the generator's turns.
-pub fn fixed_questions(seed: u64) -> Vec<Question> {
+pub fn fixed_questions(programs: &Programs, seed: u64) -> Vec<Question> {
+    let mut questions = fixed_for_the_mirror(seed);
+    if !programs.report.is_empty() {
+        questions.extend(fixed_for_the_report(seed));
+    }
+    questions
+}
+
+fn fixed_for_the_mirror(seed: u64) -> Vec<Question> {
     let mut questions = Vec::new();
     let mut ask = |which, log: &[u8], feed| {
         questions.push(Question { which, trial: Trial::of_log(log.to_vec()), feed });
@@ -127,6 +152,31 @@ pub fn fixed_questions(seed: u64) -> Vec<Question> {
     let long = generator::long_log(seed);
     ask(Which::Trace, &long, Feed::Whole);
     ask(Which::Glazomir, &long, Feed::Whole);
+    questions
+}
+
+fn fixed_for_the_report(seed: u64) -> Vec<Question> {
+    let mut questions = Vec::new();
+    let mut ask = |trial, feed| questions.push(Question { which: Which::Report, trial, feed });
+    for case in cases::all() {
+        ask(Trial::of_log(case.log), Feed::Whole);
+    }
+    let short = generator::short_night();
+    for size in 0..short.len() {
+        ask(Trial::of_log(short[..size].to_vec()), Feed::Whole);
+    }
+    for size in [1, 3, 7, 13] {
+        let mut log = generator::night(seed, size as u64);
+        log.truncate(2_000);
+        ask(Trial::of_log(log), Feed::Pieces(size));
+    }
+    ask(Trial::of_log(generator::long_log(seed)), Feed::Whole);
+    ask(Trial::of_log(generator::endless_night()), Feed::Whole);
+    ask(Trial::of_log(Vec::new()), Feed::Unreadable);
+    for words in ["--help", "-h", "--help --help", "--help bogus", "bogus --help", "10000 1640 40", ""] {
+        let group = words.split(' ').map(|word| Word::Text(word.to_string())).collect();
+        ask(Trial { groups: vec![group], log: generator::short_night() }, Feed::Whole);
+    }
     questions
 }
 
@@ -179,7 +229,22 @@ fn generated(plan: &Plan, tally: &Tally, turn: u64, directory: &Path, reach: &mu
         let question = Question { which: Which::Glazomir, trial, feed: Feed::Whole };
         judge(plan.programs, tally, &question, directory);
     }
+    if !plan.programs.report.is_empty() {
+        report_of_turn(plan, tally, turn, &trial, directory, reach);
+    }
     judge(plan.programs, tally, &Question { which: Which::Trace, trial, feed: Feed::Whole }, directory);
+}
+
+/// What of a turn goes through the report; only that counts for its reach.
+fn report_of_turn(
+    plan: &Plan, tally: &Tally, turn: u64, trial: &Trial, directory: &Path, reach: &mut Reach,
+) {
+    for log in generator::for_the_report(plan.seed, turn, trial) {
+        observe_report::log(reach, &log);
+        tally.reported.fetch_add(1, SeqCst);
+        let trial = Trial::of_log(log);
+        judge(plan.programs, tally, &Question { which: Which::Report, trial, feed: Feed::Whole }, directory);
+    }
 }
 
 /// Measures the reach of a trial, and checks demand 3 from a fresh panel.
@@ -212,32 +277,48 @@ fn ask(programs: &Programs, question: &Question, directory: &Path) -> std::io::R
     let words = question.trial.words(directory)?;
     let log = &question.trial.log;
     let (command, expected) = match question.which {
-        Which::Glazomir => (&programs.glazomir, Ok(prints::glazomir(log))),
-        Which::Trace => {
-            (&programs.trace, arguments::read(&words).map(|lent| prints::trace(&lent, log)))
-        }
+        Which::Glazomir => (&programs.glazomir, Expected::Print(prints::glazomir(log))),
+        Which::Trace => match arguments::read(&words) {
+            Ok(lent) => (&programs.trace, Expected::Print(prints::trace(&lent, log))),
+            Err(reason) => (&programs.trace, Expected::Complaint(String::new(), reason)),
+        },
+        Which::Report => (&programs.report, expected_report(&words, log, question.feed)),
     };
     let output = start::start(command, &words, log, question.feed)?;
-    Ok(difference(expected, &output))
+    Ok(difference(&expected, &output))
 }
 
-/// A refusal is one line on standard error and no print; otherwise the print
-/// is the model's, byte for byte, and the program ends with status 0.
-fn difference(expected: Result<String, &'static str>, output: &Output) -> Option<String> {
-    let print = match expected {
-        Ok(print) => print,
-        Err(_) if !output.print.is_empty() => String::new(),
-        Err(reason) => {
-            let lines = output.complaint.iter().filter(|&&byte| byte == b'\n').count();
-            let one_line = lines == 1 && output.complaint.ends_with(b"\n");
-            return (!one_line || output.status.is_none())
-                .then(|| format!("  one line on standard error is due ({reason}), there are {lines}"));
-        }
-    };
-    if output.print != print.as_bytes() {
-        return Some(first_differing_line(&print, &output.print));
+/// The report takes `--help` alone, or no word.
+fn expected_report(words: &[String], log: &[u8], feed: Feed) -> Expected {
+    match (words, feed) {
+        ([], Feed::Unreadable) => Expected::Complaint(report::print_broken_off(&[]), "standard input"),
+        ([], _) => Expected::Print(report::print(log)),
+        ([word], _) if word == "--help" => Expected::OwnWords,
+        _ => Expected::Complaint(String::new(), "words"),
     }
-    (output.status != Some(0)).then(|| format!("  the prints agree, but the status is {:?}", output.status))
+}
+
+/// The print is the model's, byte for byte. A complaint is one line on
+/// standard error; without one the program ends with status 0.
+fn difference(expected: &Expected, output: &Output) -> Option<String> {
+    let lines = output.complaint.iter().filter(|&&byte| byte == b'\n').count();
+    if let Expected::Print(print) | Expected::Complaint(print, _) = expected {
+        if output.print != print.as_bytes() {
+            return Some(first_differing_line(print, &output.print));
+        }
+    }
+    match expected {
+        Expected::Complaint(_, reason) => {
+            let one_line = lines == 1 && output.complaint.ends_with(b"\n");
+            (!one_line || output.status.is_none())
+                .then(|| format!("  one line on standard error is due ({reason}), there are {lines}"))
+        }
+        Expected::OwnWords if output.print.is_empty() || lines > 0 => {
+            Some("  a print is due, and nothing on standard error".to_string())
+        }
+        Expected::Print(_) | Expected::OwnWords => (output.status != Some(0))
+            .then(|| format!("  the prints agree, but the status is {:?}", output.status)),
+    }
 }
 
 fn first_differing_line(model: &str, program: &[u8]) -> String {
@@ -321,19 +402,27 @@ mod tests {
 
     #[test]
     fn the_print_is_compared_byte_for_byte() {
-        let print = || Ok("a\nb\n".to_string());
-        assert_eq!(difference(print(), &output("a\nb\n", "", Some(0))), None);
+        let print = Expected::Print("a\nb\n".to_string());
+        assert_eq!(difference(&print, &output("a\nb\n", "", Some(0))), None);
         for (other, status) in [("a\nb", Some(0)), ("a\nc\n", Some(0)), ("a\nb\n", Some(1)), ("a\nb\n", None)] {
-            assert!(difference(print(), &output(other, "", status)).is_some(), "{other:?} {status:?}");
+            assert!(difference(&print, &output(other, "", status)).is_some(), "{other:?} {status:?}");
         }
     }
 
     #[test]
     fn a_refusal_is_one_line_and_no_print() {
-        let refusal = Err("unknown word");
-        assert_eq!(difference(refusal.clone(), &output("", "no\n", Some(2))), None);
+        let refusal = Expected::Complaint(String::new(), "unknown word");
+        assert_eq!(difference(&refusal, &output("", "no\n", Some(2))), None);
         for (print, complaint) in [("a\n", "no\n"), ("", ""), ("", "no\nno\n")] {
-            assert!(difference(refusal.clone(), &output(print, complaint, Some(2))).is_some());
+            assert!(difference(&refusal, &output(print, complaint, Some(2))).is_some());
         }
+    }
+
+    #[test]
+    fn help_is_a_print_of_any_words() {
+        assert_eq!(difference(&Expected::OwnWords, &output("help\n", "", Some(0))), None);
+        assert!(difference(&Expected::OwnWords, &output("", "", Some(0))).is_some());
+        assert!(difference(&Expected::OwnWords, &output("help\n", "no\n", Some(0))).is_some());
+        assert!(difference(&Expected::OwnWords, &output("help\n", "", Some(1))).is_some());
     }
 }

@@ -84,6 +84,58 @@ pub fn short_log(seed: u64, turn: u64) -> Vec<u8> {
     first.into_iter().chain(few.flatten().copied()).collect()
 }
 
+/// The logs of a turn that go through the report. A start costs more than the
+/// records do, so there are few logs, and the nights among them are long.
+pub fn for_the_report(seed: u64, turn: u64, trial: &Trial) -> Vec<Vec<u8>> {
+    let mut logs = Vec::new();
+    if turn % 7 == 5 {
+        logs.push(night(seed, turn));
+    }
+    if turn % 11 == 3 {
+        logs.push(trial.log.clone());
+    }
+    logs
+}
+
+/// A log for the report: nights of a box in haste.
+pub fn night(seed: u64, turn: u64) -> Vec<u8> {
+    let mut random = Random::new(!seed, turn);
+    let target = random.pick(&[5, 100, 400, 400, 800]);
+    let mut log = sender::send_nights(&mut random, target);
+    if random.chance(35) {
+        let way = random.below(10);
+        log.extend(cut_tail(&mut random, way));
+    }
+    log
+}
+
+/// A few records at width 4, each with a line of its own in the report or a
+/// part in what is written again.
+pub fn short_night() -> Vec<u8> {
+    let (instruction, data, status) = (0, 1, 2);
+    let mut log = Vec::new();
+    for (time, control, byte) in [
+        (0, instruction, 0x20), (39, data, 0x50), (38, data, 0x50), (45, data, 0x70), (46, data, 0x50),
+        (47, data, 0x70), (60, data, 0x50), (61, status, 0), (62, instruction, 0x80),
+    ] {
+        log.extend(log::write_transfer(time, control, byte));
+    }
+    log.extend(log::write_reset(63));
+    log
+}
+
+/// A run that a count of eight or of sixteen bits would take for one of three.
+pub fn endless_night() -> Vec<u8> {
+    let mut log = log::write_transfer(0, 0, 0x01);
+    for n in 0..65_536 + 3 {
+        log.extend(log::write_transfer(1 + n / 64, 1, b'A'));
+    }
+    for n in 0..3 {
+        log.extend(log::write_transfer(2_000 + 40 * n, 1, b'A'));
+    }
+    log
+}
+
 /// A log far longer than any buffer that a program may keep.
 pub fn long_log(seed: u64) -> Vec<u8> {
     let mut random = Random::new(seed, u64::MAX);

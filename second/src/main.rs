@@ -2,11 +2,13 @@
 //! and the comparison of the model with the built programs.
 //!
 //! The model: `log`, `chip`, `panel`, `picture`, `prints`, `demands`, with
-//! `panel_file` and `arguments` for what a run is lent, and `cases`.
+//! `panel_file` and `arguments` for what a run is lent, and `cases`. The
+//! report: `report`, and `again` for what was written again.
 //! The trials: `random`, `lend`, `sender`, `generator`.
 //! The comparison: `start`, `shrink`, `compare`; `reach` lists what the trials
 //! must reach, and `observe` watches the model reach it.
 
+mod again;
 mod arguments;
 mod cases;
 mod chip;
@@ -16,12 +18,14 @@ mod generator;
 mod lend;
 mod log;
 mod observe;
+mod observe_report;
 mod panel;
 mod panel_file;
 mod picture;
 mod prints;
 mod random;
 mod reach;
+mod report;
 mod sender;
 mod shrink;
 mod start;
@@ -40,22 +44,24 @@ second: a model of the mirror, and its comparison with the built programs
 
   second glazomir < LOG          print what the mirror program should print
   second trace [WORDS] < LOG     print what trace should print
-  second cases                   check the rules' cases A to M and the example
+  second report < LOG            print what report should print
+  second cases                   check cases A to M and the pages' examples
   second reach [--logs N] [--seed S]
                                  print what the generated logs reach
-  second compare --glazomir CMD --trace CMD [--logs N] [--seed S]
+  second compare --glazomir CMD --trace CMD [--report CMD] [--logs N] [--seed S]
                                  compare the model with the built programs
-  second soak --minutes N --glazomir CMD --trace CMD [--seed S]
+  second soak --minutes N --glazomir CMD --trace CMD [--report CMD] [--seed S]
                                  compare with fresh seeds until time is up
   second gen DIR [--logs N] [--seed S]
                                  write generated logs and what they are lent
   second --help                  print this
 
 CMD is a command line, split at spaces, that starts a program. N is 3000 logs
-and S is 1 unless given; soak takes its seed from the clock. A difference is
-shrunk to a short log and printed, and so is a class that no log reached
-(which a small N brings about); the status is then 1. The last line is
-`N passed, N failed`.
+and S is 1 unless given; soak takes its seed from the clock. With --report,
+every eleventh log goes through the report too, and so do nights of a box in
+haste, one to seven logs. A difference is shrunk to a short log and printed,
+and so is a class that no log reached (which a small N brings about); the
+status is then 1. The last line is `N passed, N failed`.
 ";
 
 fn main() -> ExitCode {
@@ -64,6 +70,7 @@ fn main() -> ExitCode {
         Some("--help" | "help") => print_all(HELP).map(|()| true),
         Some("glazomir") => read_log().and_then(|log| print_all(&prints::glazomir(&log))).map(|()| true),
         Some("trace") => trace(&words[1..]).map(|()| true),
+        Some("report") => report(&words[1..]).map(|()| true),
         Some("cases") => Ok(closing(run_cases(), 0, 0)),
         Some("reach") => options(&words[1..]).and_then(|options| reach(&options)),
         Some("compare") => options(&words[1..]).and_then(|options| compare(&options)),
@@ -96,6 +103,26 @@ fn trace(words: &[String]) -> Result<(), String> {
     print_all(&prints::trace(&lent, &read_log()?))
 }
 
+const REPORT_HELP: &str = "\
+second report < LOG: the records that were not carried out, a line each, and
+how often ignored data was written again; docs/REPORT.md says more
+";
+
+/// `--help` is the only word there is.
+fn report(words: &[String]) -> Result<(), String> {
+    match words {
+        [] => {}
+        [word] if word == "--help" => return print_all(REPORT_HELP),
+        _ => return Err("report takes --help alone, or nothing".to_string()),
+    }
+    let mut log = Vec::new();
+    if let Err(error) = io::stdin().read_to_end(&mut log) {
+        print_all(&report::print_broken_off(&log))?;
+        return Err(error.to_string());
+    }
+    print_all(&report::print(&log))
+}
+
 /// What the commands that compare are told.
 struct Options {
     programs: Programs,
@@ -105,7 +132,7 @@ struct Options {
 }
 
 fn options(words: &[String]) -> Result<Options, String> {
-    let programs = Programs { glazomir: Vec::new(), trace: Vec::new() };
+    let programs = Programs { glazomir: Vec::new(), trace: Vec::new(), report: Vec::new() };
     let mut options = Options { programs, logs: 3_000, seed: None, minutes: 0 };
     for pair in words.chunks(2) {
         let [name, value] = pair else {
@@ -116,6 +143,7 @@ fn options(words: &[String]) -> Result<Options, String> {
         match name.as_str() {
             "--glazomir" => options.programs.glazomir = command(),
             "--trace" => options.programs.trace = command(),
+            "--report" => options.programs.report = command(),
             "--logs" => options.logs = number()?,
             "--seed" => options.seed = Some(number()?),
             "--minutes" => options.minutes = number()?,
@@ -167,23 +195,31 @@ fn reach(options: &Options) -> Result<bool, String> {
     let room = Room::new()?;
     let tally = Tally::new();
     let mut reach = reach::Reach::new();
+    let seed = options.seed.unwrap_or(1);
     for turn in 0..options.logs {
-        let trial = generator::trial(options.seed.unwrap_or(1), turn);
+        let trial = generator::trial(seed, turn);
         compare::model_alone(&trial, &room.0, &tally, &mut reach).map_err(|error| error.to_string())?;
+        for log in generator::for_the_report(seed, turn, &trial) {
+            observe_report::log(&mut reach, &log);
+        }
     }
     for (class, count) in reach.table() {
         println!("{count:8} {class}");
     }
     let programs = &options.programs;
     let findings = compare::print_findings(programs, &tally, &room.0);
-    let (reached, missing) = judge_reach(&reach);
+    let (reached, missing) = judge_reach(&reach, true);
     Ok(closing((reached, missing), 0, findings))
 }
 
 /// Prints each class that no log reached; gives how many are and are not.
-fn judge_reach(reach: &reach::Reach) -> (u64, u64) {
+/// The report's classes are wanted only where it is compared.
+fn judge_reach(reach: &reach::Reach, with_report: bool) -> (u64, u64) {
     let (mut reached, mut missing) = (0, 0);
     for (class, count) in reach.table() {
+        if !with_report && class.starts_with(reach::REPORT) {
+            continue;
+        }
         if count > 0 {
             reached += 1;
         } else {
@@ -206,7 +242,7 @@ fn compare(options: &Options) -> Result<bool, String> {
     let programs = with_programs(options)?;
     let room = Room::new()?;
     let seed = options.seed.unwrap_or(1);
-    let fixed = compare::fixed_questions(seed);
+    let fixed = compare::fixed_questions(programs, seed);
     let tally = Tally::new();
     let cases = run_cases();
     println!("seed {seed}");
@@ -228,7 +264,7 @@ fn soak(options: &Options) -> Result<bool, String> {
     let mut minute = 0;
     while Instant::now() < until && tally.is_clean() {
         let seed = seeds.next();
-        let fixed = if minute == 0 { compare::fixed_questions(seed) } else { Vec::new() };
+        let fixed = if minute == 0 { compare::fixed_questions(programs, seed) } else { Vec::new() };
         let plan = Plan { programs, fixed: &fixed, seed, logs: 1_000, until: Some(until), directory: &room.0 };
         compare::work(&plan, &tally);
         if began.elapsed().as_secs() / 60 >= minute || !tally.is_clean() {
@@ -254,11 +290,14 @@ fn finish(programs: &Programs, tally: &Tally, cases: (u64, u64), directory: &Pat
     let findings = compare::print_findings(programs, tally, directory);
     // A comparison that was stopped has not reached all that it would.
     let reached = if findings == 0 {
-        judge_reach(&tally.reach.lock().expect("no worker panics"))
+        judge_reach(&tally.reach.lock().expect("no worker panics"), !programs.report.is_empty())
     } else {
         (0, 0)
     };
     println!("demand 3 checked on {} logs from a fresh panel", tally.demands.load(SeqCst));
+    if !programs.report.is_empty() {
+        println!("report compared on {} generated logs", tally.reported.load(SeqCst));
+    }
     println!("{} differences {findings}", progress(tally));
     closing(cases, tally.comparisons.load(SeqCst) + reached.0, findings + reached.1)
 }

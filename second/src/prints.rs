@@ -7,7 +7,7 @@ use crate::panel::{self, Half, Panel, Run, Times};
 use crate::picture::{self, Comparison, Painting};
 use std::fmt::Write;
 
-const COUNTED: [&str; 8] = ["taken", "held", "status", "ignored", "torn", "back", "bad", "none"];
+pub const COUNTED: [&str; 8] = ["taken", "held", "status", "ignored", "torn", "back", "bad", "none"];
 
 /// What the mirror program prints for a log.
 pub fn glazomir(log: &[u8]) -> String {

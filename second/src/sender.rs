@@ -3,6 +3,10 @@
 //! The model knows the busy end and the waiting half, so the next time is
 //! chosen around the busy end and the next half to match or to tear.
 
+mod nights;
+
+pub use nights::send_nights;
+
 use crate::chip::Width;
 use crate::log::{self, TIME_LIMIT};
 use crate::panel::{Half, Panel};

@@ -1,5 +1,6 @@
 //! Starts a built program, feeds it a log and collects what it prints.
 
+use std::fs::File;
 use std::io::{self, Read, Write};
 use std::process::{Child, ChildStdin, Command, Stdio};
 use std::sync::mpsc::{self, Receiver};
@@ -18,6 +19,8 @@ pub enum Feed {
     Whole,
     /// So many bytes at a time.
     Pieces(usize),
+    /// Not at all: standard input is a directory, which cannot be read.
+    Unreadable,
 }
 
 pub struct Output {
@@ -31,21 +34,29 @@ pub fn start(command: &[String], words: &[String], log: &[u8], feed: Feed) -> io
     let mut child = Command::new(&command[0])
         .args(&command[1..])
         .args(words)
-        .stdin(Stdio::piped())
+        .stdin(standard_input(feed)?)
         .stdout(Stdio::piped())
         .stderr(Stdio::piped())
         .spawn()?;
-    let stdin = child.stdin.take().expect("piped");
     let print = collect(child.stdout.take().expect("piped"));
     let complaint = collect(child.stderr.take().expect("piped"));
-    let bytes = log.to_vec();
-    thread::spawn(move || feed_log(stdin, &bytes, feed));
+    if let Some(stdin) = child.stdin.take() {
+        let bytes = log.to_vec();
+        thread::spawn(move || feed_log(stdin, &bytes, feed));
+    }
     let end = Instant::now() + LIMIT;
     let left = || end.saturating_duration_since(Instant::now());
     let print = print.recv_timeout(left());
     let complaint = complaint.recv_timeout(left());
     let status = ending(&mut child, end)?;
     Ok(Output { print: print.unwrap_or_default(), complaint: complaint.unwrap_or_default(), status })
+}
+
+fn standard_input(feed: Feed) -> io::Result<Stdio> {
+    match feed {
+        Feed::Unreadable => Ok(Stdio::from(File::open(std::env::temp_dir())?)),
+        Feed::Whole | Feed::Pieces(_) => Ok(Stdio::piped()),
+    }
 }
 
 fn collect(pipe: impl Read + Send + 'static) -> Receiver<Vec<u8>> {
@@ -62,6 +73,7 @@ fn collect(pipe: impl Read + Send + 'static) -> Receiver<Vec<u8>> {
 /// A program may stop reading early, so a broken pipe is no error here.
 fn feed_log(mut stdin: ChildStdin, log: &[u8], feed: Feed) {
     match feed {
+        Feed::Unreadable => {}
         Feed::Whole => drop(stdin.write_all(log)),
         Feed::Pieces(size) => {
             // The program must be reading already, or the pieces pile up in
