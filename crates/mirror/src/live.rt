@@ -224,10 +224,10 @@ impl Live {
                 rw,
                 data: bus,
             } => {
-                if time < self.last {
-                    self.refuse(Answer::Back, 14)
-                } else {
+                if self.last <= time {
                     self.transfer(times, time, rs, rw, bus, display, pattern)
+                } else {
+                    self.refuse(Answer::Back, 14)
                 }
             }
         }

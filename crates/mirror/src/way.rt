@@ -112,11 +112,11 @@ pub fn decide(eight: bool, half: Half, free: bool, rs: bool, rw: bool, byte: u8)
     }
     match half {
         Half::Empty => first(free, rs, rw),
-        Half::Ignored { rs: r, rw: w } => {
-            if r != rs {
+        Half::Ignored { rs: a, rw: b } => {
+            if a != rs {
                 return Way::Torn;
             }
-            if w != rw {
+            if b != rw {
                 return Way::Torn;
             }
             Way::Ignored

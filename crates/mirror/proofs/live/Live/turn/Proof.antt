@@ -38,11 +38,11 @@ done-requires c κs = reset-time _ _ (sym (c .before .before .before .before .be
 enum-known-f-3 : tie.Need-enum-known-f-3
 enum-known-f-3 c = search needs
 
-refuse-requires-4 : tie.Need-refuse-requires-4
-refuse-requires-4 c κs = search needs
-
 transfer-requires : tie.Need-transfer-requires
 transfer-requires c κs = transfer-time _ _ _ _ _ (sym (c .before .before .before .before .before .before .before .frame .ensures) ∙ c .before .before .before .before .before .f3 .given .1)
+
+refuse-requires-4 : tie.Need-refuse-requires-4
+refuse-requires-4 c κs = search needs
 
 returns : tie.Need-returns
 returns c = rw (← c .before .before .before .frame .ensures, c .before .enum-told .given .1) (c .refuse .ensures _ _ _)
@@ -61,11 +61,11 @@ returns-4 c =
     (c .done .ensures _ _ _ ∙ done-as _ _ _ _ q _ _ _ (c .before .fresh .ensures) refl)
 
 returns-5 : tie.Need-returns-5
-returns-5 c = rw (← c .before .before .before .before .before .before .frame .ensures, c .before .before .before .before .f3 .given .1, lt-ltb _ _ (c .before .if2 .taken)) (c .refuse4 .ensures _ _ _)
+returns-5 c =
+    rw (← c .before .before .before .before .before .before .before .before .frame .ensures, c .before .before .before .before .before .before .f3 .given .1, le-ltb _ _ (c .before .before .before .if2 .taken)) (c .transfer .ensures)
 
 returns-6 : tie.Need-returns-6
-returns-6 c =
-    rw (← c .before .before .before .before .before .before .before .before .frame .ensures, c .before .before .before .before .before .before .f3 .given .1, le-ltb _ _ (c .before .before .before .if2 .left)) (c .transfer .ensures)
+returns-6 c = rw (← c .before .before .before .before .before .before .frame .ensures, c .before .before .before .before .f3 .given .1, lt-ltb _ _ (c .before .if2 .left)) (c .refuse4 .ensures _ _ _)
 
 pub turn-spec : {M : Type 1} → statement M
 turn-spec =
@@ -81,8 +81,8 @@ turn-spec =
     fresh-requires
     done-requires
     enum-known-f-3
-    refuse-requires-4
     transfer-requires
+    refuse-requires-4
     returns
     returns-2
     returns-3
