@@ -19,4 +19,5 @@ pub mod UniqueChip
 pub mod UniqueLog
 pub mod UniqueMirror
 pub mod UniquePicture
+pub mod UniqueAccount
 pub mod RefutedPicture
