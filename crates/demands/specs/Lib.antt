@@ -20,4 +20,5 @@ pub mod UniqueDesk
 pub mod UniqueLog
 pub mod UniqueMirror
 pub mod UniquePicture
+pub mod UniqueAccount
 pub mod RefutedPicture

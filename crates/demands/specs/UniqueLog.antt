@@ -20,6 +20,7 @@ use Rattle.log.proofs.front.told as front·told
 use Rattle.log.proofs.front.whole as front·whole
 use Rattle.log.proofs.front.wants_more as front·wants-more
 use Rattle.log.proofs.front.frame as front·frame
+use Rattle.log.proofs.front.flaw as front·flaw
 use Rattle.log.proofs.records.records as records·records
 use Rattle.demands.specs.Unique.{DeterminesAnswer, answer, equation}
 
@@ -71,6 +72,10 @@ module _ {M : Type 1} (𝓤 : URA M) (H : Heap 𝓤) (A : Atoms 𝓤) (mem : Mem
   -- log::front::frame: r ≡ frameOf (now (log .entry))
   pub frame : DeterminesAnswer 𝓤 front·frame.ended (front·frame.clauses 𝓤 H A mem run)
   frame = equation 𝓤 _ _ _ (λ κs a g r e. refl)
+
+  -- log::front::flaw: r ≡ flawOf (now (log .entry))
+  pub flaw : DeterminesAnswer 𝓤 front·flaw.ended (front·flaw.clauses 𝓤 H A mem run)
+  flaw = equation 𝓤 _ _ _ (λ κs a g r e. refl)
 
   -- log::records::records: r ≡ recordsOf (now (log .entry))
   pub records : DeterminesAnswer 𝓤 records·records.ended (records·records.clauses 𝓤 H A mem run)

@@ -26,6 +26,7 @@ use Rattle.mirror.proofs.stream.Stream.next as stream·next
 use Rattle.mirror.proofs.stream.Stream.feed as stream·feed
 use Rattle.mirror.proofs.stream.Stream.end as stream·end
 use Rattle.mirror.proofs.panel.Panel.run as panel·run
+use Rattle.mirror.proofs.totals.raise as totals·raise
 use Rattle.mirror.proofs.totals.Totals.start as totals·start
 use Rattle.mirror.proofs.totals.Totals.count as totals·count
 use Rattle.mirror.proofs.totals.Totals.consume as totals·consume
@@ -106,6 +107,10 @@ module _ {M : Type 1} (𝓤 : URA M) (H : Heap 𝓤) (A : Atoms 𝓤) (mem : Mem
   -- mirror::panel::Panel::run: r ≡ runOf self (now (log .entry))
   pub panel-run : DeterminesAnswer 𝓤 panel·run.ended (panel·run.clauses 𝓤 H A mem run)
   panel-run = equation 𝓤 _ _ _ (λ κs a g r e. refl)
+
+  -- mirror::totals::raise: r ≡ raised n
+  pub raise : DeterminesAnswer 𝓤 totals·raise.ended (totals·raise.clauses 𝓤 H A mem run)
+  raise = equation 𝓤 _ _ _ (λ κs a g r e. refl)
 
   -- mirror::totals::Totals::start: r ≡ started panel
   pub totals-start : DeterminesAnswer 𝓤 totals·start.ended (totals·start.clauses 𝓤 H A mem run)

@@ -2,6 +2,8 @@ pub mod Frame
 pub mod FrontLaws
 pub mod FrameLaws
 pub mod CutLaws
+pub mod Flaw
+pub mod FlawLaws
 pub mod Frames
 pub mod FrameCases
 pub mod FramesLaws

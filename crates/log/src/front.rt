@@ -2,7 +2,9 @@
 ghost use mathlib.Core.Path.{_≡_};
 ghost use Prim.Native.Nat.{_+_, _≤_};
 ghost use lib.ListN.{length};
+ghost use Rattle.log.specs.Flaw.{flawOf};
 ghost use Rattle.log.specs.Frame.{Byte, Num16, Num64, toldSize, wholeSize, wantsMore, frameOf, Whole};
+use crate::flaw::Flaw;
 use crate::frame::Frame;
 
 // 2^48: times are below it.
@@ -144,4 +146,37 @@ pub fn frame(log: &[u8]) -> Frame
         }
     }
     any(log)
+}
+
+// What is wrong with the record at the front: the first of these, whatever follows it.
+pub fn flaw(log: &[u8]) -> Flaw
+    ensures { λ r. ⌜ r ≡ flawOf (now (log .entry)) ⌝ }
+{
+    let size = whole(log);
+    if size == 0 {
+        return Flaw::Nothing;
+    }
+    let kind = num16(log, 2);
+    if kind == 1 {
+        if size != 14 {
+            return Flaw::Length(size - 2);
+        }
+        if TIME_END <= num64(log, 4) {
+            return Flaw::LateTime;
+        }
+        if 4 <= log[12] {
+            return Flaw::StrayControl;
+        }
+        return Flaw::Nothing;
+    }
+    if kind == 2 {
+        if size != 12 {
+            return Flaw::Length(size - 2);
+        }
+        if TIME_END <= num64(log, 4) {
+            return Flaw::LateTime;
+        }
+        return Flaw::Nothing;
+    }
+    Flaw::Kind(kind)
 }

@@ -24,7 +24,7 @@ pub struct Consumed {
 }
 
 // One more. A count stays at its greatest number, which no real log reaches.
-fn raise(n: u64) -> u64
+pub fn raise(n: u64) -> u64
     ensures { λ r. ⌜ r ≡ raised n ⌝ }
 {
     if n < u64::MAX { n + 1 } else { n }

@@ -1,0 +1,2 @@
+// What a log comes to in the report: which records have a line, and how often data was written again.
+pub mod again;
