@@ -74,8 +74,9 @@ fn main() {
     let given = asked(
         b"glazomir",
         b"",
-        b"glazomir < LOG carries a log out on a fresh panel, and prints how many records there are, how many of\n\
-        them were answered each way, whether the log is cut, the address and the sixteen codes in memory.\n",
+        b"glazomir < LOG carries a log of bus transfers out on a fresh panel, and prints how many records it has\n\
+        and how many of them were answered each way, whether it is cut, the address, and the sixteen codes in\n\
+        display memory. It takes no argument.\n",
     );
     if !given.ok {
         return;

@@ -68,7 +68,8 @@ fn main() {
         b"paintings",
         b"",
         b"paintings < LOG paints the panel that a log of at most 65536 bytes leaves a hundred thousand times, for\n\
-        the benchmark, and prints the lit dots of all paintings, modulo 1000000007, and the last frame.\n",
+        the benchmark, and prints the lit dots of all paintings, modulo 1000000007, and the last frame.\n\
+        It takes no argument.\n",
     );
     if !given.ok {
         return;
