@@ -74,9 +74,23 @@ fn main() {
     let given = asked(
         b"glazomir",
         b"",
-        b"glazomir < LOG carries a log of bus transfers out on a fresh panel, and prints how many records it has\n\
-        and how many of them were answered each way, whether it is cut, the address, and the sixteen codes in\n\
-        display memory. It takes no argument.\n",
+        b"glazomir < LOG carries a log of bus transfers out on a fresh panel, and prints twelve lines:\n\
+        records N   how many records the log has, up to a cut\n\
+        taken N     carried out: instructions, data transfers and resets\n\
+        held N      first halves of a pair that were kept\n\
+        status N    status reads that were completed\n\
+        ignored N   transfers that came while the chip was busy\n\
+        torn N      second halves that differ from their first in RS or R/W\n\
+        back N      records with a time below the last time seen\n\
+        bad N       records that can't be used: their kind, length, time or control is wrong\n\
+        none N      instruction writes of 00h while the chip was free\n\
+        cut B       1 where the log breaks off within a record, otherwise 0\n\
+        address A   where the address counter points; `pattern A` where that is in pattern memory\n\
+        codes ..    the sixteen codes of display memory, by display address\n\
+        Counts are decimal, the last two lines hexadecimal. The execution times are 10000 (reset), 1640 (long)\n\
+        and 40 (short) microseconds. It takes no argument.\n\
+        A log of any length is read as it comes, in constant memory. trace prints the answer to every record\n\
+        and the whole panel, wall draws the glass, report lists what was not carried out.\n",
     );
     if !given.ok {
         return;
