@@ -13,7 +13,7 @@ pub const GROUPS: usize = 8;
 // place after its name, 0 for one that was not given.
 pub struct Given {
     pub ok: bool,
-    pub next: usize,
+    next: usize,
     pub places: [usize; GROUPS],
 }
 

@@ -1,6 +1,8 @@
-// What the programs share: their arguments, the files and numbers among these, standard input, and what they write.
+// What the programs share: their arguments, the files and numbers among these, standard input, what they write, and
+// the usual times.
 pub mod arguments;
 pub mod bytes;
 pub mod input;
 pub mod number;
 pub mod print;
+pub mod times;

@@ -6,16 +6,12 @@ use desk::input::Input;
 use desk::print::show;
 use desk::print::show_bytes;
 use desk::print::show_number;
+use desk::times::LONG;
+use desk::times::RESET;
+use desk::times::SHORT;
 use mirror::panel::Panel;
 use mirror::stream::Run;
 use mirror::stream::Stream;
-
-// The execution times, in microseconds.
-const RESET: u16 = 10000;
-
-const LONG: u16 = 1640;
-
-const SHORT: u16 = 40;
 
 // What the whole of standard input leaves, and whether the reading failed.
 struct Fed {

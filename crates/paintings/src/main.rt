@@ -7,6 +7,9 @@ use desk::input::Input;
 use desk::print::show;
 use desk::print::show_bytes;
 use desk::print::show_number;
+use desk::times::LONG;
+use desk::times::RESET;
+use desk::times::SHORT;
 use mirror::panel::Panel;
 use picture::frame::FRAME_SIZE;
 use picture::paint::Painted;
@@ -77,7 +80,7 @@ fn main() {
     let mut block = io::large_buffer();
     let input = Input::start().read(&mut block);
     let n = input.len;
-    let run = Panel::fresh(10000, 1640, 40).run(&block[..n]);
+    let run = Panel::fresh(RESET, LONG, SHORT).run(&block[..n]);
     let panel = run.panel;
     let font = trial_font();
     let mut frame = [0u8; FRAME_SIZE];

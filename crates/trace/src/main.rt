@@ -7,6 +7,7 @@ mod show;
 ghost use Prim.Native.Nat.{_<_};
 use answers::answer_all;
 use desk::arguments::GROUPS;
+use desk::arguments::Given;
 use desk::arguments::asked;
 use desk::bytes::Bytes;
 use desk::bytes::load;
@@ -178,8 +179,9 @@ fn print(panel: Panel, lent: Lent) {
     }
 }
 
-fn main() {
-    let given = asked(
+// What was asked for.
+fn arguments() -> Given {
+    asked(
         b"trace",
         b"font FILE, times R L S, panel FILE, frame N, frames A B",
         b"trace < LOG prints a line for each record, its answer and byte; then the whole panel, its picture\n\
@@ -189,7 +191,11 @@ fn main() {
         panel FILE   84 bytes: the panel to start from; without it, a fresh one\n\
         frame N      the size of the frames that are painted, 0 to 200; without it, 80\n\
         frames A B   two files of at most 200 bytes, to compare in place of the two pictures\n",
-    );
+    )
+}
+
+fn main() {
+    let given = arguments();
     if !given.ok {
         return;
     }

@@ -2,6 +2,9 @@
 use desk::number::Number;
 use desk::number::number_at;
 use desk::print::complain;
+use desk::times::LONG;
+use desk::times::RESET;
+use desk::times::SHORT;
 use mirror::panel::Times;
 use picture::frame::FRAME_SIZE;
 use std::num::wrapping_add_usize;
@@ -14,9 +17,9 @@ pub struct Timed {
 // The three times.
 pub fn times_at(place: usize) -> Timed {
     let usual = Times {
-        reset: 10000,
-        long: 1640,
-        short: 40,
+        reset: RESET,
+        long: LONG,
+        short: SHORT,
     };
     if place == 0 {
         return Timed {

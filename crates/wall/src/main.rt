@@ -15,6 +15,9 @@ use desk::bytes::load;
 use desk::number::Number;
 use desk::number::number_at;
 use desk::print::complain;
+use desk::times::LONG;
+use desk::times::RESET;
+use desk::times::SHORT;
 use draw::draw_pairs;
 use draw::draw_rows;
 use draw::painted;
@@ -25,13 +28,6 @@ use picture::frame::FRAME_SIZE;
 use picture::pattern::FONT_SIZE;
 use watch::FOREVER;
 use watch::watch_all;
-
-// The execution times, in microseconds.
-const RESET: u16 = 10000;
-
-const LONG: u16 = 1640;
-
-const SHORT: u16 = 40;
 
 // The groups of arguments.
 const ASCII: usize = 0;
