@@ -4,3 +4,6 @@ pub mod AgainStateLaws
 pub mod RepeatsLaws
 pub mod AgainLaws
 pub mod AgainCases
+pub mod Entry
+pub mod Account
+pub mod AccountLaws

@@ -12,6 +12,7 @@ use Rattle.log.proofs.carry.carried as carry·carried
 use Rattle.log.proofs.carry.Carry.empty as carry·empty
 use Rattle.log.proofs.carry.Carry.keep as carry·keep
 use Rattle.log.proofs.carry.Carry.frame as carry·frame
+use Rattle.log.proofs.carry.Carry.flaw as carry·flaw
 use Rattle.log.proofs.carry.Carry.wants_more as carry·wants-more
 use Rattle.log.proofs.carry.Carry.wanting as carry·wanting
 use Rattle.log.proofs.carry.Carry.fill as carry·fill
@@ -40,6 +41,10 @@ module _ {M : Type 1} (𝓤 : URA M) (H : Heap 𝓤) (A : Atoms 𝓤) (mem : Mem
   -- log::carry::Carry::frame: r ≡ frameOf (carriedOf self)
   pub carry-frame : DeterminesAnswer 𝓤 carry·frame.ended (carry·frame.clauses 𝓤 H A mem run)
   carry-frame = equation 𝓤 _ _ _ (λ κs a g r e. refl)
+
+  -- log::carry::Carry::flaw: r ≡ flawOf (carriedOf self)
+  pub carry-flaw : DeterminesAnswer 𝓤 carry·flaw.ended (carry·flaw.clauses 𝓤 H A mem run)
+  carry-flaw = equation 𝓤 _ _ _ (λ κs a g r e. refl)
 
   -- log::carry::Carry::wants_more: r ≡ wantsMore (carriedOf self)
   pub carry-wants-more : DeterminesAnswer 𝓤 carry·wants-more.ended (carry·wants-more.clauses 𝓤 H A mem run)

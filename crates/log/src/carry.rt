@@ -4,9 +4,12 @@ ghost use Prim.Native.Nat.{_+_, _-_, _≤_, min};
 ghost use mathlib.Core.List.{[]};
 ghost use lib.ListN.{length, take};
 ghost use lib.Seq.{paste};
+ghost use Rattle.log.specs.Flaw.{flawOf};
 ghost use Rattle.log.specs.Frame.{frameOf, wantsMore};
 ghost use Rattle.log.specs.Carry.{room, carriedOf, carryOf, wantingOf, toppedOf, filledOf, Held, Reach};
+use crate::flaw::Flaw;
 use crate::frame::Frame;
+use crate::front::flaw;
 use crate::front::frame;
 use crate::front::told;
 use crate::front::wants_more;
@@ -96,6 +99,15 @@ impl Carry {
         let bytes = self.bytes;
         let held = carried(bytes, self.len);
         frame(&bytes[..held])
+    }
+
+    // What is wrong with it.
+    pub fn flaw(self) -> Flaw
+        ensures { λ r. ⌜ r ≡ flawOf (carriedOf self) ⌝ }
+    {
+        let bytes = self.bytes;
+        let held = carried(bytes, self.len);
+        flaw(&bytes[..held])
     }
 
     // Whether they may be a whole record once more bytes follow.

@@ -50,7 +50,7 @@ not-free time end = by (leb end time) refl where
   by false e = sym (lt-ltb time end (leb-false end time e))
 
 -- an open first half agrees with the half that waits
-data Agrees : Open → Half → Type 0 where
+pub data Agrees : Open → Half → Type 0 where
   closed : Agrees none Empty
   deaf : {f : Entry} {rs wr : Bool} → eqb (f .number) 3 ≡ true → wasBusy f ≡ true → Agrees (first f) (Ignored rs wr)
   kept : {f : Entry} {rs wr : Bool} {nibble : ℕ} →
@@ -125,7 +125,7 @@ module _ (p : Panel) (log : List ℕ) where
   begun false (first e) (deaf three busy) f b = absurd (false≢true f)
   begun false (first e) (kept three busy nib) f b = absurd (false≢true f)
 
-  agrees : (o : Open) → Agrees o (p .half) → Agrees (openAfter (p .sheet .registers .eight) o (entryOf p log)) (panelAfter p log .half)
+  pub agrees : (o : Open) → Agrees o (p .half) → Agrees (openAfter (p .sheet .registers .eight) o (entryOf p log)) (panelAfter p log .half)
   agrees o h = each-row p log (λ n q. Agrees (openAfter eight o (entry n)) (q .half)) by where
     eight : Bool
     eight = p .sheet .registers .eight
@@ -156,7 +156,7 @@ module _ (p : Panel) (log : List ℕ) where
       ap (λ x. x * 16 + dataOf log / 16) (sym (nib (j ∙ w)) ∙ sym (mod-eq-of-lt (ltb-true n 16 fits)))
 
   -- and so is the width
-  width : (o : Open) → Agrees o (p .half) → widthAfter (p .sheet .registers .eight) o (entryOf p log) ≡ panelAfter p log .sheet .registers .eight
+  pub width : (o : Open) → Agrees o (p .half) → widthAfter (p .sheet .registers .eight) o (entryOf p log) ≡ panelAfter p log .sheet .registers .eight
   width o h = each-row p log (λ n q. widthAfter eight o (entry n) ≡ q .sheet .registers .eight) by where
     eight : Bool
     eight = p .sheet .registers .eight

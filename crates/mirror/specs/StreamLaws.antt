@@ -36,7 +36,7 @@ not-both s o = by (wantsMore s) (ap (λ b. wantsMore s && b) (sym o) ∙ cut-one
     by true e = e
     by false e = refl
 
-cut-broken : (s : List ℕ) → cutAt s ≡ true → wantsMore s ≡ false → broken s ≡ true
+pub cut-broken : (s : List ℕ) → cutAt s ≡ true → wantsMore s ≡ false → broken s ≡ true
 cut-broken s u w = sym (ap (λ b. b || broken s) w) ∙ sym (cut-either s) ∙ u
 
 -- the tail lies at the end of the log
@@ -149,7 +149,7 @@ onward-append t [] b = refl
 onward-append t (x ∷ a) b = onward-append (advanced t x) a b
 
 -- what waits after a part that wants more is that part's tail
-waits-tail : (st : Stream) (t : Totals) (rest : List ℕ) → wantsMore rest ≡ true → waitingBytes (restedOf st t rest) ≡ rest
+pub waits-tail : (st : Stream) (t : Totals) (rest : List ℕ) → wantsMore rest ≡ true → waitingBytes (restedOf st t rest) ≡ rest
 waits-tail st t rest w =
     let k : wantingOf rest ≡ rest = ap (λ b. pick b rest []) w in
     ap wantingOf (carried (wantingOf rest) ∙ k) ∙ k
@@ -223,7 +223,7 @@ cut-tail st t rest = by (wantsMore rest) refl
         some (x ∷ l) e = lt-ltb 0 (length (x ∷ l)) (omega arith)
 
 -- a log fed to a stream that has just started
-fed : (b : Bool) (p : Panel) (log : List ℕ) → feedOf (startAs b p) log ≡ restedOf (startAs b p) (onward (startAs b p .totals) (frames log)) (tail log)
+pub fed : (b : Bool) (p : Panel) (log : List ℕ) → feedOf (startAs b p) log ≡ restedOf (startAs b p) (onward (startAs b p .totals) (frames log)) (tail log)
 fed b p log =
     let st = startAs b p in
     let none : waitingBytes st ≡ [] = ap wantingOf (carried []) ∙ ap (λ w. pick w [] []) none-want in
