@@ -1,0 +1,49 @@
+// The summary: the counts of the run, and what was written again.
+use crate::columns::put_time;
+use crate::page::PAGE;
+use crate::page::put;
+use crate::page::put_number;
+use account::again::Found;
+use mirror::stream::Run;
+
+fn put_count(page: &mut [u8; PAGE], at: usize, name: &[u8], n: u64) -> usize {
+    let a = put(page, at, b"summary\t");
+    let b = put(page, a, name);
+    let c = put(page, b, b"\t");
+    let d = put_number(page, c, n);
+    put(page, d, b"\n")
+}
+
+pub fn put_counts(page: &mut [u8; PAGE], at: usize, run: Run) -> usize {
+    let counts = run.counts;
+    let a = put_count(page, at, b"records", run.records);
+    let b = put_count(page, a, b"taken", counts[0]);
+    let c = put_count(page, b, b"held", counts[1]);
+    let d = put_count(page, c, b"status", counts[2]);
+    let e = put_count(page, d, b"ignored", counts[3]);
+    let f = put_count(page, e, b"torn", counts[4]);
+    let g = put_count(page, f, b"back", counts[5]);
+    let h = put_count(page, g, b"bad", counts[6]);
+    let i = put_count(page, h, b"none", counts[7]);
+    put_count(page, i, b"cut", run.cut as u64)
+}
+
+// The place of a run that was written again, where there is one.
+fn put_place(page: &mut [u8; PAGE], at: usize, name: &[u8], there: bool, time: u64) -> usize {
+    let a = put(page, at, b"summary\t");
+    let b = put(page, a, name);
+    let c = if there {
+        put_time(page, b, time)
+    } else {
+        put(page, b, b"\t-\t-")
+    };
+    put(page, c, b"\n")
+}
+
+pub fn put_found(page: &mut [u8; PAGE], at: usize, found: Found) -> usize {
+    let there = found.count != 0;
+    let a = put_count(page, at, b"written-again", found.count);
+    let b = put_place(page, a, b"first-written-again", there, found.first);
+    let c = put_place(page, b, b"last-written-again", there, found.last);
+    put_count(page, c, b"runs-too-long", found.long)
+}
