@@ -7,3 +7,7 @@ pub mod AgainCases
 pub mod Entry
 pub mod Account
 pub mod AccountLaws
+pub mod DataWrites
+pub mod DataWritesLaws
+pub mod FollowsLaws
+pub mod DataWritesCases
