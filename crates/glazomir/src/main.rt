@@ -66,7 +66,8 @@ fn print_codes(display: [u8; DISPLAY_SIZE]) {
     show(b"\n");
 }
 
-fn main() {
+// Whether it is to go on: it takes no argument, and its help explains the twelve lines.
+fn goes_on() -> bool {
     let given = asked(
         b"glazomir",
         b"",
@@ -88,7 +89,11 @@ fn main() {
         A log of any length is read as it comes, in constant memory. trace prints the answer to every record\n\
         and the whole panel, wall draws the glass, report lists what was not carried out.\n",
     );
-    if !given.ok {
+    given.ok
+}
+
+fn main() {
+    if !goes_on() {
         return;
     }
     let mut block = io::large_buffer();
