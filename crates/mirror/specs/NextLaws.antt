@@ -15,7 +15,7 @@ use Rattle.log.specs.CarryLaws.{wanting-wants, fill-front, more-left}
 use Rattle.mirror.specs.Record.{answered}
 use Rattle.mirror.specs.Run.{counted, onward}
 use Rattle.mirror.specs.RunLaws.{uncut-used, cut-used}
-use Rattle.mirror.specs.Stream.{waitingBytes, restedOf, feedOf, replyOf, nextOf}
+use Rattle.mirror.specs.Stream.{waitingBytes, restedOf, feedOf, replyOf, stoppedOf, nextOf}
 use Rattle.mirror.specs.StreamLaws.{Fed, feed-open, feed-append}
 use Rattle.mirror.specs.declared.record.Recorded.{Recorded}
 use Rattle.mirror.specs.declared.stream.Stream.{Stream}
@@ -44,6 +44,9 @@ unfolding nextBy nextOf
 next-over st part o =
     let w = filled (waitingBytes st) part in
     ap (λ x. nextBy st x (cutAt w) w (length (more (waitingBytes st) part))) (sym o)
+
+pub stopped-over : (st : Stream) (part : List ℕ) → st .over ≡ true → stoppedOf st 0 ≡ nextOf st part
+stopped-over st part o = ap (λ b. record { stream = st; taken = 0; reply = pick b Cut More }) o ∙ next-over st part o
 
 -- what is told apart where the record is not whole: a cut that is final, and more wanted
 final-or-more : (b w : Bool) → not w ≡ b → pick b Cut More ≡ pick w More Cut

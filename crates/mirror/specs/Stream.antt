@@ -53,6 +53,10 @@ feedOf st part =
 abbrev pub replyOf : Stream → Answer → ℕ → Reply
 replyOf st answer byte = pick (st .refused) (Answered say.Unsound 0) (Answered answer byte)
 
+-- no record is answered: a cut was met, or more bytes are wanted
+abbrev pub stoppedOf : Stream → ℕ → Next
+stoppedOf st taken = record { stream = st; taken = taken; reply = pick (st .over) Cut More }
+
 -- the next record alone, out of the bytes that wait and no more of the part than it needs
 unfoldable pub nextOf : Stream → List ℕ → Next
 nextOf st part =

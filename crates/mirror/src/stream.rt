@@ -1,7 +1,7 @@
 // The streaming form: a log in parts of any size, the bytes between two parts carried in the state. And a run, which is
 // one part.
 ghost use mathlib.Core.Path.{_≡_};
-ghost use Rattle.mirror.specs.Stream.{startOf, restedOf, feedOf, replyOf, nextOf, endOf, runOf};
+ghost use Rattle.mirror.specs.Stream.{startOf, restedOf, feedOf, replyOf, stoppedOf, nextOf, endOf, runOf};
 use crate::answer::Answer;
 use crate::panel::Panel;
 use crate::totals::Totals;
@@ -122,16 +122,24 @@ impl Stream {
         Reply::Answered { answer, byte }
     }
 
+    // No record is answered: a cut was met, or more bytes are wanted.
+    fn stopped(self, taken: usize) -> Next
+        ensures { λ r. ⌜ r ≡ stoppedOf self taken ⌝ }
+    {
+        let reply = if self.over { Reply::Cut } else { Reply::More };
+        Next {
+            stream: self,
+            taken,
+            reply,
+        }
+    }
+
     // The next record alone: no more of the part is taken than it needs.
     pub fn next(self, part: &[u8]) -> Next
         ensures { λ r. ⌜ r ≡ nextOf self (now (part .entry)) ⌝ }
     {
         if self.over {
-            return Next {
-                stream: self,
-                taken: 0,
-                reply: Reply::Cut,
-            };
+            return self.stopped(0);
         }
         let totals = self.totals;
         let carry = self.carry;
@@ -143,19 +151,7 @@ impl Stream {
         let panel = totals.panel;
         let r = panel.turned(&bytes[..held]);
         if r.used == 0 {
-            let stream = self.rest(totals, &bytes[..held]);
-            if stream.over {
-                return Next {
-                    stream,
-                    taken,
-                    reply: Reply::Cut,
-                };
-            }
-            return Next {
-                stream,
-                taken,
-                reply: Reply::More,
-            };
+            return self.rest(totals, &bytes[..held]).stopped(taken);
         }
         let answer = r.answer;
         Next {

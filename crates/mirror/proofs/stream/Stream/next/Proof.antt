@@ -1,13 +1,16 @@
-use mathlib.Core.Bool.{true, false}
+use mathlib.Core.Path.{refl}
 use denote.Ref.{now}
 use Rattle.mirror.specs.StreamLaws.{has-fed}
-use Rattle.mirror.specs.NextLaws.{next-over, next-stops, next-goes}
+use Rattle.mirror.specs.NextLaws.{stopped-over, next-stops, next-goes}
 use borrow.Author.Needs.{needs}
 use Rattle.mirror.proofs.stream.Stream.next.Statement.{statement}
 use Rattle.mirror.proofs.stream.Stream.next.Tie as tie
 
+stopped-requires : tie.Need-stopped-requires
+stopped-requires c κs = search needs
+
 returns : tie.Need-returns
-returns c = next-over _ _ (c .if1 .taken)
+returns c = rw (c .stopped .ensures) (stopped-over _ _ (c .before .if1 .taken))
 
 wanting-requires : tie.Need-wanting-requires
 wanting-requires c κs = search needs
@@ -36,17 +39,15 @@ slice-aggregate-rest c = c .before .before .before .before .before .before .carr
 rest-requires : tie.Need-rest-requires
 rest-requires c κs = search needs
 
+stopped-requires-2 : tie.Need-stopped-requires-2
+stopped-requires-2 c κs = search needs
+
 returns-2 : tie.Need-returns-2
 returns-2 c =
     let a = c .before .before .before .before .before .before .before .before .before .before .before .before .before .before .before .before .before .args in
     let f = has-fed (a .self) (now (a .part)) (c .before .before .before .before .before .before .before .before .before .before .before .before .wanting .result) (c .before .before .before .before .before .before .before .before .before .before .before .fill .result) (c .before .before .before .before .before .before .before .before .carried .result) (c .before .before .before .before .before .before .before .before .before .before .before .before .wanting .ensures) (c .before .before .before .before .before .before .before .before .before .before .before .fill .ensures) (c .before .before .before .before .before .before .before .before .carried .ensures) in
-    next-stops f (c .before .before .before .before .before .before .before .before .before .before .before .before .before .before .before .if1 .left) _ (c .before .before .before .before .before .turned .ensures) (c .before .before .before .if2 .taken) _ (c .before .rest .ensures) true (c .if3 .taken)
-
-returns-3 : tie.Need-returns-3
-returns-3 c =
-    let a = c .before .before .before .before .before .before .before .before .before .before .before .before .before .before .before .before .before .args in
-    let f = has-fed (a .self) (now (a .part)) (c .before .before .before .before .before .before .before .before .before .before .before .before .wanting .result) (c .before .before .before .before .before .before .before .before .before .before .before .fill .result) (c .before .before .before .before .before .before .before .before .carried .result) (c .before .before .before .before .before .before .before .before .before .before .before .before .wanting .ensures) (c .before .before .before .before .before .before .before .before .before .before .before .fill .ensures) (c .before .before .before .before .before .before .before .before .carried .ensures) in
-    next-stops f (c .before .before .before .before .before .before .before .before .before .before .before .before .before .before .before .if1 .left) _ (c .before .before .before .before .before .turned .ensures) (c .before .before .before .if2 .taken) _ (c .before .rest .ensures) false (c .if3 .left)
+    rw (c .stopped2 .ensures)
+    (next-stops f (c .before .before .before .before .before .before .before .before .before .before .before .before .before .before .before .if1 .left) _ (c .before .before .before .before .before .turned .ensures) (c .before .before .before .if2 .taken) _ (c .before .rest .ensures) _ refl)
 
 count-requires : tie.Need-count-requires
 count-requires c κs = search needs
@@ -63,8 +64,8 @@ rest-requires-2 c κs = search needs
 reply-requires : tie.Need-reply-requires
 reply-requires c κs = search needs
 
-returns-4 : tie.Need-returns-4
-returns-4 c =
+returns-3 : tie.Need-returns-3
+returns-3 c =
     let a = c .before .before .before .before .before .before .before .before .before .before .before .before .before .before .before .before .before .before .args in
     let f = has-fed (a .self) (now (a .part)) (c .before .before .before .before .before .before .before .before .before .before .before .before .before .wanting .result) (c .before .before .before .before .before .before .before .before .before .before .before .before .fill .result) (c .before .before .before .before .before .before .before .before .before .carried .result) (c .before .before .before .before .before .before .before .before .before .before .before .before .before .wanting .ensures) (c .before .before .before .before .before .before .before .before .before .before .before .before .fill .ensures) (c .before .before .before .before .before .before .before .before .before .carried .ensures) in
     rw (c .reply .ensures, c .before .rest2 .ensures, c .before .before .before .count .ensures)
@@ -74,6 +75,7 @@ pub next-spec : {M : Type 1} → statement M
 next-spec =
     tie.close
     (tie.spec
+    stopped-requires
     returns
     wanting-requires
     fill-requires
@@ -84,11 +86,11 @@ next-spec =
     array-share-prefix-bytes-2
     slice-aggregate-rest
     rest-requires
+    stopped-requires-2
     returns-2
-    returns-3
     count-requires
     array-share-prefix-bytes-3
     slice-aggregate-rest-2
     rest-requires-2
     reply-requires
-    returns-4)
+    returns-3)
