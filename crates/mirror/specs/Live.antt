@@ -1,5 +1,5 @@
 -- What the engine's state stands for: with the two memories it is a panel, and what was last answered to it.
-use Prim.Native.Nat.{ℕ}
+use Prim.Native.Nat.{ℕ, _*_, _/_, _%_}
 use mathlib.Core.Path.{_≡_}
 use mathlib.Core.List.{List}
 use Rattle.chip.specs.Sheet.{sheetOf}
@@ -47,6 +47,9 @@ Holds time half answer byte k r =
 
 abbrev pub Waits : ℕ → Bool → Bool → ℕ → ℕ → Live → Live → Type 0
 Waits time rs wr nibble byte k r = Holds time (Waiting rs wr nibble) say.Held byte k r
+
+abbrev pub Offers : ℕ → Bool → Bool → ℕ → Live → Live → Type 0
+Offers time rs wr byte k r = Waits time rs wr (byte % 16) (byte / 16 * 16) k r
 
 abbrev pub Shows : ℕ → Live → ℕ → Type 0
 Shows time k r = (t : Times) (d p : List ℕ) → r ≡ statusOf time (panelOf t k d p)

@@ -9,7 +9,7 @@ ghost use Rattle.laws.specs.Pick.{pick};
 ghost use Rattle.log.specs.Frame.{frameOf};
 ghost use Rattle.mirror.specs.Panel.{timeEnd};
 ghost use Rattle.mirror.specs.Record.{recorded, statusOf, transferred, answered};
-ghost use Rattle.mirror.specs.Live.{panelOf, recordedOf, liveOf, Refuses, Holds, Waits, Does, Shows};
+ghost use Rattle.mirror.specs.Live.{panelOf, recordedOf, liveOf, Refuses, Holds, Waits, Offers, Does, Shows};
 use crate::answer::Answer;
 use crate::half::Half;
 use crate::panel::Panel;
@@ -146,6 +146,13 @@ impl Live {
         self.hold(time, Half::Waiting { rs, rw, nibble }, Answer::Held, byte)
     }
 
+    // The first half of a read that counts: the low half waits.
+    fn offer(self, time: u64, rs: bool, rw: bool, byte: u8) -> Live
+        ensures { λ r. ⌜ Offers time rs rw byte self r ⌝ }
+    {
+        self.wait(time, rs, rw, byte % 16, byte / 16 * 16)
+    }
+
     // A transfer that is neither bad nor back.
     fn transfer(
         self,
@@ -169,14 +176,8 @@ impl Live {
             Way::Ignored => self.hold(time, Half::Empty, Answer::Ignored, 0),
             Way::Missed => self.hold(time, Half::Ignored { rs, rw }, Answer::Ignored, 0),
             Way::Nothing => self.hold(time, Half::Empty, Answer::Nothing, 0),
-            Way::HoldStatus => {
-                let b = self.status(time);
-                self.wait(time, rs, rw, b % 16, b / 16 * 16)
-            }
-            Way::HoldRead => {
-                let b = r.here(display, pattern);
-                self.wait(time, rs, rw, b % 16, b / 16 * 16)
-            }
+            Way::HoldStatus => self.offer(time, rs, rw, self.status(time)),
+            Way::HoldRead => self.offer(time, rs, rw, r.here(display, pattern)),
             Way::HoldWrite => self.wait(time, rs, rw, bus / 16, 0),
             Way::Status => self.hold(time, Half::Empty, Answer::Status, self.status(time)),
             Way::StatusEnd => self.hold(time, Half::Empty, Answer::Status, nibble(half) * 16),
@@ -185,10 +186,7 @@ impl Live {
                 self.done(r.read(), time, times.short, b, 14)
             }
             Way::ReadEnd => self.done(r.read(), time, times.short, nibble(half) * 16, 14),
-            Way::Write => {
-                let next = r.write(byte, display, pattern);
-                self.done(next, time, times.short, 0, 14)
-            }
+            Way::Write => self.done(r.write(byte, display, pattern), time, times.short, 0, 14),
             Way::Obey => {
                 let next = r.obey(byte, display);
                 self.done(next, time, span(times, byte), 0, 14)

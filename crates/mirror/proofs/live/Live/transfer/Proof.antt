@@ -45,11 +45,8 @@ enum-told-5 c = search needs
 status-requires : tie.Need-status-requires
 status-requires c κs = search needs
 
-mul-wait : tie.Need-mul-wait
-mul-wait c = search needs
-
-wait-requires : tie.Need-wait-requires
-wait-requires c κs = search needs
+offer-requires : tie.Need-offer-requires
+offer-requires c κs = search needs
 
 enum-told-6 : tie.Need-enum-told-6
 enum-told-6 c = search needs
@@ -57,17 +54,14 @@ enum-told-6 c = search needs
 here-requires : tie.Need-here-requires
 here-requires c κs = search needs
 
-mul-wait-2 : tie.Need-mul-wait-2
-mul-wait-2 c = search needs
-
-wait-requires-2 : tie.Need-wait-requires-2
-wait-requires-2 c κs = search needs
+offer-requires-2 : tie.Need-offer-requires-2
+offer-requires-2 c κs = search needs
 
 enum-told-7 : tie.Need-enum-told-7
 enum-told-7 c = search needs
 
-wait-requires-3 : tie.Need-wait-requires-3
-wait-requires-3 c κs = search needs
+wait-requires : tie.Need-wait-requires
+wait-requires c κs = search needs
 
 enum-told-8 : tie.Need-enum-told-8
 enum-told-8 c = search needs
@@ -154,16 +148,16 @@ returns-5 : tie.Need-returns-5
 returns-5 c =
     let a = c .before .before .before .before .before .before .before .before .args in
     let q = panelOf (a .times) (a .self) (now (a .display)) (now (a .pattern)) in
-    c .wait .ensures _ _ _ ∙ held-as _ _ _ q _ _ (c .before .status .ensures (c .before .before .before .before .before .before .before .before .args .times) [] []) ∙ by-way _ _ _ _ q _ _ _ (c .before .before .before .before .before .before .joined .ensures) (c .before .before .before .before .decide .ensures) (c .before .before .enum-told5 .given .1)
+    c .offer .ensures _ _ _ ∙ held-as _ _ _ q _ _ (c .before .status .ensures (c .before .before .before .before .before .before .before .before .args .times) [] []) ∙ by-way _ _ _ _ q _ _ _ (c .before .before .before .before .before .before .joined .ensures) (c .before .before .before .before .decide .ensures) (c .before .before .enum-told5 .given .1)
 
 returns-6 : tie.Need-returns-6
 returns-6 c =
     let a = c .before .before .before .before .before .before .before .before .before .before .args in
     let q = panelOf (a .times) (a .self) (now (a .display)) (now (a .pattern)) in
-    c .wait2 .ensures _ _ _ ∙ held-as _ _ _ q _ _ (c .before .here .ensures) ∙ by-way _ _ _ _ q _ _ _ (c .before .before .before .before .before .before .before .before .joined .ensures) (c .before .before .before .before .before .before .decide .ensures) (c .before .before .before .before .enum-told6 .given .1)
+    c .offer2 .ensures _ _ _ ∙ held-as _ _ _ q _ _ (c .before .here .ensures) ∙ by-way _ _ _ _ q _ _ _ (c .before .before .before .before .before .before .before .before .joined .ensures) (c .before .before .before .before .before .before .decide .ensures) (c .before .before .before .before .enum-told6 .given .1)
 
 returns-7 : tie.Need-returns-7
-returns-7 c = c .wait3 .ensures _ _ _ ∙ by-way _ _ _ _ _ _ _ _ (c .before .before .before .before .before .joined .ensures) (c .before .before .before .decide .ensures) (c .before .enum-told7 .given .1)
+returns-7 c = c .wait .ensures _ _ _ ∙ by-way _ _ _ _ _ _ _ _ (c .before .before .before .before .before .joined .ensures) (c .before .before .before .decide .ensures) (c .before .enum-told7 .given .1)
 
 returns-8 : tie.Need-returns-8
 returns-8 c =
@@ -217,14 +211,12 @@ transfer-spec =
     hold-requires-4
     enum-told-5
     status-requires
-    mul-wait
-    wait-requires
+    offer-requires
     enum-told-6
     here-requires
-    mul-wait-2
-    wait-requires-2
+    offer-requires-2
     enum-told-7
-    wait-requires-3
+    wait-requires
     enum-told-8
     status-requires-2
     hold-requires-5
