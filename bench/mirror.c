@@ -124,13 +124,39 @@ static inline int transfer(panel *p, uint64_t time, int rs, int rw, uint8_t byte
     return TAKEN;
 }
 
-// Every whole record at the front; answers how many bytes they are, or sets cut where a length is wrong.
+// A transfer of the right length: its time and control are tested here.
+static inline int usable(panel *p, const uint8_t *r) {
+    uint64_t time;
+    memcpy(&time, r + 4, 8);
+    if (time >> 48 != 0 || r[12] > 3) return BAD;
+    return time < p->last ? BACK : transfer(p, time, r[12] & 1, r[12] >> 1, r[13]);
+}
+
+static inline int reset(panel *p, const uint8_t *r) {
+    uint64_t time;
+    memcpy(&time, r + 4, 8);
+    if (time >> 48 != 0) return BAD;
+    if (time < p->last) return BACK;
+    fresh(p);
+    p->last = time;
+    p->busy = time + RESET_TIME;
+    return TAKEN;
+}
+
+// Every whole record at the front; answers how many bytes they are, or sets cut where a length is wrong. One look at the
+// first four bytes tells a transfer of the right length, as in the mirror.
 static size_t consume(panel *p, const uint8_t *log, size_t n, int *cut) {
     size_t at = 0;
     while (n - at >= 2) {
         const uint8_t *r = log + at;
+        uint32_t head;
         uint16_t length, kind;
-        uint64_t time;
+        if (n - at >= 14 && (memcpy(&head, r, 4), head == 0x1000C)) {
+            p->counts[usable(p, r)]++;
+            p->records++;
+            at += 14;
+            continue;
+        }
         memcpy(&length, r, 2);
         if (length < 2 || length > 64) {
             *cut = 1;
@@ -139,23 +165,7 @@ static size_t consume(panel *p, const uint8_t *log, size_t n, int *cut) {
         if (n - at - 2 < length) return at;
         memcpy(&kind, r + 2, 2);
         at += length + 2;
-        int answer = BAD;
-        if (kind == 1 && length == 12) {
-            memcpy(&time, r + 4, 8);
-            if (time >> 48 == 0 && r[12] < 4)
-                answer = time < p->last ? BACK : transfer(p, time, r[12] & 1, r[12] >> 1, r[13]);
-        } else if (kind == 2 && length == 10) {
-            memcpy(&time, r + 4, 8);
-            if (time >> 48 == 0) {
-                answer = time < p->last ? BACK : TAKEN;
-                if (answer == TAKEN) {
-                    fresh(p);
-                    p->last = time;
-                    p->busy = time + RESET_TIME;
-                }
-            }
-        }
-        p->counts[answer]++;
+        p->counts[kind == 2 && length == 10 ? reset(p, r) : BAD]++;
         p->records++;
     }
     return at;
