@@ -14,12 +14,12 @@ use crate::instruction::decode;
 
 // All of the sheet but its memories.
 pub struct Registers {
-    pub address: Address,
     pub shift: u8,
     // I/D: up is 1.
     pub up: bool,
     // S: a display write shifts the display.
     pub follow: bool,
+    pub address: Address,
     // D, C and B.
     pub on: bool,
     pub cursor: bool,

@@ -17,7 +17,7 @@ use Rattle.log.specs.FramesLaws.{AllRecords, frames-are-records}
 use Rattle.log.specs.declared.frame.Frame.{Frame}
 use Rattle.log.specs.declared.frame.Frame.the-variants as frame
 use Rattle.mirror.specs.Answer.{numberOf}
-use Rattle.mirror.specs.Way.{joinedOf, wayOf}
+use Rattle.mirror.specs.Way.{Way, joinedOf, wayOf}
 use Rattle.mirror.specs.Record.{free, went, transferred, answered}
 use Rattle.mirror.specs.Run.{mostCount, capped, raised, tallied}
 use Rattle.mirror.specs.Stream.{runOf}
@@ -26,8 +26,6 @@ use Rattle.mirror.specs.declared.answer.Answer.{Answer}
 use Rattle.mirror.specs.declared.answer.Answer.the-variants as say
 use Rattle.mirror.specs.declared.panel.Panel.{Panel}
 use Rattle.mirror.specs.declared.record.Recorded.{Recorded}
-use Rattle.mirror.specs.declared.way.Way.{Way}
-use Rattle.mirror.specs.declared.way.Way.the-variants as way
 use Rattle.striking.specs.Machine.{Answered, run}
 use Rattle.demands.specs.Mirrors.{Reply, ours, machineOf}
 use Rattle.demands.specs.Answers.{answersBy, countsOf, numbers}
@@ -86,19 +84,19 @@ abbrev Counted : Answer → Type 0
 Counted a = ltb (numberOf a) 8 ≡ true
 
 went-counted : (v : Way) (time : ℕ) (rs wr : Bool) (bus byte : ℕ) (p : Panel) → Counted (went v time rs wr bus byte p .answer)
-went-counted way.Torn time rs wr bus byte p = refl
-went-counted way.Ignored time rs wr bus byte p = refl
-went-counted way.Missed time rs wr bus byte p = refl
-went-counted way.Nothing time rs wr bus byte p = refl
-went-counted way.HoldStatus time rs wr bus byte p = refl
-went-counted way.HoldRead time rs wr bus byte p = refl
-went-counted way.HoldWrite time rs wr bus byte p = refl
-went-counted way.Status time rs wr bus byte p = refl
-went-counted way.StatusEnd time rs wr bus byte p = refl
-went-counted way.Read time rs wr bus byte p = refl
-went-counted way.ReadEnd time rs wr bus byte p = refl
-went-counted way.Write time rs wr bus byte p = refl
-went-counted way.Obey time rs wr bus byte p = refl
+went-counted Way.Torn time rs wr bus byte p = refl
+went-counted Way.Ignored time rs wr bus byte p = refl
+went-counted Way.Missed time rs wr bus byte p = refl
+went-counted Way.Nothing time rs wr bus byte p = refl
+went-counted Way.HoldStatus time rs wr bus byte p = refl
+went-counted Way.HoldRead time rs wr bus byte p = refl
+went-counted Way.HoldWrite time rs wr bus byte p = refl
+went-counted Way.Status time rs wr bus byte p = refl
+went-counted Way.StatusEnd time rs wr bus byte p = refl
+went-counted Way.Read time rs wr bus byte p = refl
+went-counted Way.ReadEnd time rs wr bus byte p = refl
+went-counted Way.Write time rs wr bus byte p = refl
+went-counted Way.Obey time rs wr bus byte p = refl
 
 pick-counted : (z : Bool) (x y : Recorded) → Counted (x .answer) → Counted (y .answer) → Counted (pick z x y .answer)
 pick-counted true x y h k = h

@@ -12,7 +12,7 @@ use Rattle.log.specs.declared.frame.Frame.{Frame}
 use Rattle.log.specs.declared.frame.Frame.the-variants as frame
 use Rattle.chip.specs.Sheet.{freshSheet}
 use Rattle.chip.specs.declared.sheet.Sheet.{Sheet}
-use Rattle.mirror.specs.Way.{joinedOf, wayOf}
+use Rattle.mirror.specs.Way.{Way, joinedOf, wayOf}
 use Rattle.mirror.specs.Record.{recorded, free, holding, done, went, transferred, answered}
 use Rattle.mirror.specs.declared.answer.Answer.{Answer}
 use Rattle.mirror.specs.declared.answer.Answer.the-variants as say
@@ -20,8 +20,6 @@ use Rattle.mirror.specs.declared.half.Half.{Half}
 use Rattle.mirror.specs.declared.half.Half.the-variants.{Empty, Ignored, Waiting}
 use Rattle.mirror.specs.declared.panel.Panel.{Panel}
 use Rattle.mirror.specs.declared.record.Recorded.{Recorded}
-use Rattle.mirror.specs.declared.way.Way.{Way}
-use Rattle.mirror.specs.declared.way.Way.the-variants as way
 use Rattle.striking.specs.Machine.{goes, strikes, leaves, sorted, Machine}
 use Rattle.striking.specs.Laws.{Turn, KeeperStays, Laws}
 use Rattle.striking.specs.Instances.{through-laws}
@@ -47,19 +45,19 @@ data Beside : Panel → Panel → Panel → Type 0 where
 -- no way of a transfer looks at the last time
 went-clockless : (v : Way) (time : ℕ) (rs wr : Bool) (bus byte : ℕ) (p : Panel) (l : ℕ) →
     went v time rs wr bus byte (holding l (p .half) p) ≡ went v time rs wr bus byte p
-went-clockless way.Torn time rs wr bus byte p l = refl
-went-clockless way.Ignored time rs wr bus byte p l = refl
-went-clockless way.Missed time rs wr bus byte p l = refl
-went-clockless way.Nothing time rs wr bus byte p l = refl
-went-clockless way.HoldStatus time rs wr bus byte p l = refl
-went-clockless way.HoldRead time rs wr bus byte p l = refl
-went-clockless way.HoldWrite time rs wr bus byte p l = refl
-went-clockless way.Status time rs wr bus byte p l = refl
-went-clockless way.StatusEnd time rs wr bus byte p l = refl
-went-clockless way.Read time rs wr bus byte p l = refl
-went-clockless way.ReadEnd time rs wr bus byte p l = refl
-went-clockless way.Write time rs wr bus byte p l = refl
-went-clockless way.Obey time rs wr bus byte p l = refl
+went-clockless Way.Torn time rs wr bus byte p l = refl
+went-clockless Way.Ignored time rs wr bus byte p l = refl
+went-clockless Way.Missed time rs wr bus byte p l = refl
+went-clockless Way.Nothing time rs wr bus byte p l = refl
+went-clockless Way.HoldStatus time rs wr bus byte p l = refl
+went-clockless Way.HoldRead time rs wr bus byte p l = refl
+went-clockless Way.HoldWrite time rs wr bus byte p l = refl
+went-clockless Way.Status time rs wr bus byte p l = refl
+went-clockless Way.StatusEnd time rs wr bus byte p l = refl
+went-clockless Way.Read time rs wr bus byte p l = refl
+went-clockless Way.ReadEnd time rs wr bus byte p l = refl
+went-clockless Way.Write time rs wr bus byte p l = refl
+went-clockless Way.Obey time rs wr bus byte p l = refl
 
 clockless : (time : ℕ) (rs wr : Bool) (bus : ℕ) (p : Panel) (l : ℕ) → transferred time rs wr bus (holding l (p .half) p) ≡ transferred time rs wr bus p
 unfolding transferred

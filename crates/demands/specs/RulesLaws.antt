@@ -13,15 +13,13 @@ use Rattle.chip.specs.Step.{obeyed}
 use Rattle.chip.specs.declared.sheet.Sheet.{Sheet}
 use Rattle.mirror.specs.Answer.{numberOf}
 use Rattle.mirror.specs.Panel.{timeEnd, halfFits, soundPanel}
-use Rattle.mirror.specs.Way.{joinedOf, finishOf, wholeOf, firstOf, secondOf, wayOf}
+use Rattle.mirror.specs.Way.{Way, joinedOf, finishOf, wholeOf, firstOf, secondOf, wayOf}
 use Rattle.mirror.specs.Record.{recorded, free, went, transferred, answered}
 use Rattle.mirror.specs.declared.answer.Answer.the-variants as say
 use Rattle.mirror.specs.declared.half.Half.{Half}
 use Rattle.mirror.specs.declared.half.Half.the-variants.{Empty, Ignored, Waiting}
 use Rattle.mirror.specs.declared.panel.Panel.{Panel}
 use Rattle.mirror.specs.declared.record.Recorded.{Recorded}
-use Rattle.mirror.specs.declared.way.Way.{Way}
-use Rattle.mirror.specs.declared.way.Way.the-variants as way
 use Rattle.demands.specs.Mirrors.{ours}
 use Rattle.demands.specs.Replay.{Entry, carriedAll, entryOf}
 use Rattle.demands.specs.Rules.{matching, busyAt, entriesAt, IgnoresBusy, Steps}
@@ -60,7 +58,7 @@ module _ (time : ℕ) (r w : Bool) (bus byte : ℕ) (p : Panel) where
   finish-heard true b = refl
   finish-heard false b = by (eqb b 0)
     where
-      by : (z : Bool) → ignores (pick z way.Nothing way.Obey) ≡ false
+      by : (z : Bool) → ignores (pick z Way.Nothing Way.Obey) ≡ false
       by true = refl
       by false = refl
 
@@ -84,7 +82,7 @@ module _ (time : ℕ) (r w : Bool) (bus byte : ℕ) (p : Panel) where
   second-heard false true b = refl
 
   -- a second half that matches goes its way
-  untorn : (a b : Bool) (v : Way) → (a && b) ≡ true → ignores (pick (not a) way.Torn (pick (not b) way.Torn v)) ≡ ignores v
+  untorn : (a b : Bool) (v : Way) → (a && b) ≡ true → ignores (pick (not a) Way.Torn (pick (not b) Way.Torn v)) ≡ ignores v
   untorn true true v e = refl
   untorn true false v e = absurd (false≢true e)
   untorn false b v e = absurd (false≢true e)
@@ -93,7 +91,7 @@ module _ (time : ℕ) (r w : Bool) (bus byte : ℕ) (p : Panel) where
       ignores (wayOf eight h z rs wr b) ≡ busyAt h z
   way-ignores true h z rs wr b n u m = whole-ignores z rs wr b u ∙ sym (ap (λ x. busyAt x z) (n refl))
   way-ignores false Empty z rs wr b n u m = first-ignores z rs wr u
-  way-ignores false (Ignored r₁ w₁) z rs wr b n u m = untorn (Bool·beq r₁ rs) (Bool·beq w₁ wr) way.Ignored m
+  way-ignores false (Ignored r₁ w₁) z rs wr b n u m = untorn (Bool·beq r₁ rs) (Bool·beq w₁ wr) Way.Ignored m
   way-ignores false (Waiting r₁ w₁ nibble) z rs wr b n u m =
       untorn (Bool·beq r₁ rs) (Bool·beq w₁ wr) (secondOf rs wr b) m ∙ second-heard rs wr b
 
@@ -115,7 +113,7 @@ module _ (time : ℕ) (r w : Bool) (bus byte : ℕ) (p : Panel) where
   finish-sheet true = refl
   finish-sheet false = by (eqb byte 0) refl
     where
-      by : (z : Bool) → eqb byte 0 ≡ z → sheetBy (pick z way.Nothing way.Obey) ≡ obeyed byte (p .sheet)
+      by : (z : Bool) → eqb byte 0 ≡ z → sheetBy (pick z Way.Nothing Way.Obey) ≡ obeyed byte (p .sheet)
       by true e = sym (ap (λ n. obeyed n (p .sheet)) (eqb-true byte 0 e))
       by false e = refl
 
@@ -141,13 +139,13 @@ module _ (time : ℕ) (r w : Bool) (bus byte : ℕ) (p : Panel) where
   second-sheet false true = refl
 
   torn-sheet : (a b : Bool) (v : Way) (es : List Entry) → sheetBy v ≡ carriedAll es (p .sheet) →
-      sheetBy (pick (not a) way.Torn (pick (not b) way.Torn v)) ≡ carriedAll (pick (a && b) es []) (p .sheet)
+      sheetBy (pick (not a) Way.Torn (pick (not b) Way.Torn v)) ≡ carriedAll (pick (a && b) es []) (p .sheet)
   torn-sheet true true v es h = h
   torn-sheet true false v es h = refl
   torn-sheet false b v es h = refl
 
 ignored-sheet : (a b : Bool) (time : ℕ) (r w : Bool) (bus byte : ℕ) (p : Panel) →
-    sheetBy time r w bus byte p (pick (not a) way.Torn (pick (not b) way.Torn way.Ignored)) ≡ p .sheet
+    sheetBy time r w bus byte p (pick (not a) Way.Torn (pick (not b) Way.Torn Way.Ignored)) ≡ p .sheet
 ignored-sheet true true time r w bus byte p = refl
 ignored-sheet true false time r w bus byte p = refl
 ignored-sheet false b time r w bus byte p = refl

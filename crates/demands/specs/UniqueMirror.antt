@@ -30,9 +30,6 @@ use Rattle.mirror.proofs.totals.raise as totals·raise
 use Rattle.mirror.proofs.totals.Totals.start as totals·start
 use Rattle.mirror.proofs.totals.Totals.count as totals·count
 use Rattle.mirror.proofs.totals.Totals.consume as totals·consume
-use Rattle.mirror.proofs.way.nibble as way·nibble
-use Rattle.mirror.proofs.way.joined as way·joined
-use Rattle.mirror.proofs.way.decide as way·decide
 use Rattle.demands.specs.Unique.{Determines, DeterminesAnswer, answer, equation}
 
 -- the engine's state and its memories, read off the panel and the answer that they stand for
@@ -123,15 +120,3 @@ module _ {M : Type 1} (𝓤 : URA M) (H : Heap 𝓤) (A : Atoms 𝓤) (mem : Mem
   -- mirror::totals::Totals::consume: r ≡ consumedOf self (now (log .entry))
   pub totals-consume : DeterminesAnswer 𝓤 totals·consume.ended (totals·consume.clauses 𝓤 H A mem run)
   totals-consume = equation 𝓤 _ _ _ (λ κs a g r e. refl)
-
-  -- mirror::way::nibble: r ≡ nibbleOf half
-  pub nibble : DeterminesAnswer 𝓤 way·nibble.ended (way·nibble.clauses 𝓤 H A mem run)
-  nibble = equation 𝓤 _ _ _ (λ κs a g r e. refl)
-
-  -- mirror::way::joined: r ≡ joinedOf eight half bus
-  pub joined : DeterminesAnswer 𝓤 way·joined.ended (way·joined.clauses 𝓤 H A mem run)
-  joined = equation 𝓤 _ _ _ (λ κs a g r e. refl)
-
-  -- mirror::way::decide: r ≡ wayOf eight half free rs rw byte
-  pub decide : DeterminesAnswer 𝓤 way·decide.ended (way·decide.clauses 𝓤 H A mem run)
-  decide = equation 𝓤 _ _ _ (λ κs a g r e. refl)

@@ -9,7 +9,7 @@ use Rattle.laws.specs.Pick.{pick}
 use Rattle.log.specs.declared.frame.Frame.{Frame}
 use Rattle.log.specs.declared.frame.Frame.the-variants as frame
 use Rattle.chip.specs.Sheet.{freshSheet}
-use Rattle.mirror.specs.Way.{nibbleOf, joinedOf, finishOf, wholeOf, firstOf, secondOf, unlessTorn, wayOf}
+use Rattle.mirror.specs.Way.{Way, nibbleOf, joinedOf, finishOf, wholeOf, firstOf, secondOf, unlessTorn, wayOf}
 use Rattle.mirror.specs.Record.{recorded, free, statusOf, hereOf, holding, done, spanOf, high, went, transferred, answered}
 use Rattle.mirror.specs.declared.answer.Answer.{Answer}
 use Rattle.mirror.specs.declared.answer.Answer.the-variants as say
@@ -17,8 +17,6 @@ use Rattle.mirror.specs.declared.half.Half.{Half}
 use Rattle.mirror.specs.declared.half.Half.the-variants.{Empty, Ignored, Waiting}
 use Rattle.mirror.specs.declared.panel.Panel.{Panel}
 use Rattle.mirror.specs.declared.record.Recorded.{Recorded}
-use Rattle.mirror.specs.declared.way.Way.{Way}
-use Rattle.mirror.specs.declared.way.Way.the-variants as way
 use Rattle.demands.specs.Replay.{Entry, instruct, write, read, reset, carried, entryOf, Something}
 
 -- the answers after which no half waits and nothing is carried out
@@ -65,7 +63,7 @@ module _ (p : Panel) (time : ℕ) (rs : Bool) (bus : ℕ) (eight : Bool) (h : Ha
   finish-goes f = by rs (eqb byte 0) refl
     where
       by : (rs z : Bool) → eqb byte 0 ≡ z →
-          Goes p time rs false bus eight h (went (pick rs way.Write (pick z way.Nothing way.Obey)) time rs false bus byte p)
+          Goes p time rs false bus eight h (went (pick rs Way.Write (pick z Way.Nothing Way.Obey)) time rs false bus byte p)
       by true z e = acts (write byte) (p .times .short) 0 refl tt f
       by false true e = drops say.Nothing 0 nothing
       by false false e = acts (instruct byte) (spanOf byte p) 0 refl (eqb-false byte 0 e) f
@@ -106,7 +104,7 @@ torn-goes : (p : Panel) (time : ℕ) (rs wr : Bool) (bus byte : ℕ) (h : Half) 
 torn-goes p time rs wr bus byte h r w v go = by (not (Bool·beq r rs)) (not (Bool·beq w wr)) (beq-same w wr)
   where
     by : (a b : Bool) → (b ≡ false → w ≡ wr) →
-        Goes p time rs wr bus false h (went (pick a way.Torn (pick b way.Torn v)) time rs wr bus byte p)
+        Goes p time rs wr bus false h (went (pick a Way.Torn (pick b Way.Torn v)) time rs wr bus byte p)
     by true b e = drops say.Torn 0 torn
     by false true e = drops say.Torn 0 torn
     by false false e = go (e refl)
@@ -117,7 +115,7 @@ goes : (p : Panel) (time : ℕ) (rs wr : Bool) (bus : ℕ) (eight : Bool) (h : H
 goes p time rs wr bus true h z n = whole-goes p time rs wr bus h z (n refl)
 goes p time rs wr bus false Empty z n = first-goes p time rs wr bus (joinedOf false Empty bus) z
 goes p time rs wr bus false (Ignored r w) z n =
-    torn-goes p time rs wr bus (joinedOf false (Ignored r w) bus) (Ignored r w) r w way.Ignored (λ e. drops say.Ignored 0 ignored)
+    torn-goes p time rs wr bus (joinedOf false (Ignored r w) bus) (Ignored r w) r w Way.Ignored (λ e. drops say.Ignored 0 ignored)
 goes p time rs wr bus false (Waiting r w nibble) z n =
     let byte = joinedOf false (Waiting r w nibble) bus in
     torn-goes p time rs wr bus byte (Waiting r w nibble) r w (secondOf rs wr byte) (second-goes p time rs wr bus r w nibble)

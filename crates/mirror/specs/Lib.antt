@@ -3,6 +3,8 @@ pub mod Panel
 pub mod Way
 pub mod Record
 pub mod Live
+pub mod Acts
+pub mod ActsLaws
 pub mod RecordLaws
 pub mod Run
 pub mod RunLaws

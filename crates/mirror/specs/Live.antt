@@ -9,7 +9,7 @@ use Rattle.mirror.specs.declared.answer.Answer.{Answer}
 use Rattle.mirror.specs.declared.answer.Answer.the-variants as say
 use mathlib.Core.Bool.{Bool}
 use Rattle.mirror.specs.declared.half.Half.{Half}
-use Rattle.mirror.specs.declared.half.Half.the-variants.{Waiting}
+use Rattle.mirror.specs.declared.half.Half.the-variants.{Empty, Waiting}
 use Rattle.mirror.specs.declared.live.Live.{Live}
 use Rattle.mirror.specs.declared.panel.Panel.{Panel}
 use Rattle.mirror.specs.declared.panel.Times.{Times}
@@ -50,6 +50,9 @@ Waits time rs wr nibble byte k r = Holds time (Waiting rs wr nibble) say.Held by
 
 abbrev pub Offers : ℕ → Bool → Bool → ℕ → Live → Live → Type 0
 Offers time rs wr byte k r = Waits time rs wr (byte % 16) (byte / 16 * 16) k r
+
+abbrev pub Tears : ℕ → Live → Live → Type 0
+Tears time k r = Holds time Empty say.Torn 0 k r
 
 abbrev pub Shows : ℕ → Live → ℕ → Type 0
 Shows time k r = (t : Times) (d p : List ℕ) → r ≡ statusOf time (panelOf t k d p)

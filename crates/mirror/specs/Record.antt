@@ -12,15 +12,13 @@ use Rattle.chip.specs.Sheet.{freshSheet, readHere}
 use Rattle.chip.specs.Step.{obeyed, written, passed}
 use Rattle.chip.specs.declared.sheet.Sheet.{Sheet}
 use Rattle.mirror.specs.Panel.{soundPanel}
-use Rattle.mirror.specs.Way.{nibbleOf, joinedOf, wayOf}
+use Rattle.mirror.specs.Way.{Way, nibbleOf, joinedOf, wayOf}
 use Rattle.mirror.specs.declared.answer.Answer.{Answer}
 use Rattle.mirror.specs.declared.answer.Answer.the-variants as say
 use Rattle.mirror.specs.declared.half.Half.{Half}
 use Rattle.mirror.specs.declared.half.Half.the-variants.{Empty, Ignored, Waiting}
 use Rattle.mirror.specs.declared.panel.Panel.{Panel}
 use Rattle.mirror.specs.declared.record.Recorded.{Recorded}
-use Rattle.mirror.specs.declared.way.Way.{Way}
-use Rattle.mirror.specs.declared.way.Way.the-variants as way
 
 abbrev pub recorded : Panel → Answer → ℕ → ℕ → Recorded
 recorded p answer byte used = record { panel = p; answer = answer; byte = byte; used = used }
@@ -57,21 +55,21 @@ high b = b / 16 * 16
 
 -- what each way comes to
 abbrev pub went : Way → ℕ → Bool → Bool → ℕ → ℕ → Panel → Recorded
-went way.Torn time rs wr bus byte p = recorded (holding time Empty p) say.Torn 0 14
-went way.Ignored time rs wr bus byte p = recorded (holding time Empty p) say.Ignored 0 14
-went way.Missed time rs wr bus byte p = recorded (holding time (Ignored rs wr) p) say.Ignored 0 14
-went way.Nothing time rs wr bus byte p = recorded (holding time Empty p) say.Nothing 0 14
-went way.HoldStatus time rs wr bus byte p =
+went Way.Torn time rs wr bus byte p = recorded (holding time Empty p) say.Torn 0 14
+went Way.Ignored time rs wr bus byte p = recorded (holding time Empty p) say.Ignored 0 14
+went Way.Missed time rs wr bus byte p = recorded (holding time (Ignored rs wr) p) say.Ignored 0 14
+went Way.Nothing time rs wr bus byte p = recorded (holding time Empty p) say.Nothing 0 14
+went Way.HoldStatus time rs wr bus byte p =
     recorded (holding time (Waiting rs wr (statusOf time p % 16)) p) say.Held (high (statusOf time p)) 14
-went way.HoldRead time rs wr bus byte p = recorded (holding time (Waiting rs wr (hereOf p % 16)) p) say.Held (high (hereOf p)) 14
-went way.HoldWrite time rs wr bus byte p = recorded (holding time (Waiting rs wr (bus / 16)) p) say.Held 0 14
-went way.Status time rs wr bus byte p = recorded (holding time Empty p) say.Status (statusOf time p) 14
-went way.StatusEnd time rs wr bus byte p = recorded (holding time Empty p) say.Status (nibbleOf (p .half) * 16) 14
-went way.Read time rs wr bus byte p = recorded (done time (passed (p .sheet)) (p .times .short) p) say.Taken (hereOf p) 14
-went way.ReadEnd time rs wr bus byte p =
+went Way.HoldRead time rs wr bus byte p = recorded (holding time (Waiting rs wr (hereOf p % 16)) p) say.Held (high (hereOf p)) 14
+went Way.HoldWrite time rs wr bus byte p = recorded (holding time (Waiting rs wr (bus / 16)) p) say.Held 0 14
+went Way.Status time rs wr bus byte p = recorded (holding time Empty p) say.Status (statusOf time p) 14
+went Way.StatusEnd time rs wr bus byte p = recorded (holding time Empty p) say.Status (nibbleOf (p .half) * 16) 14
+went Way.Read time rs wr bus byte p = recorded (done time (passed (p .sheet)) (p .times .short) p) say.Taken (hereOf p) 14
+went Way.ReadEnd time rs wr bus byte p =
     recorded (done time (passed (p .sheet)) (p .times .short) p) say.Taken (nibbleOf (p .half) * 16) 14
-went way.Write time rs wr bus byte p = recorded (done time (written byte (p .sheet)) (p .times .short) p) say.Taken 0 14
-went way.Obey time rs wr bus byte p = recorded (done time (obeyed byte (p .sheet)) (spanOf byte p) p) say.Taken 0 14
+went Way.Write time rs wr bus byte p = recorded (done time (written byte (p .sheet)) (p .times .short) p) say.Taken 0 14
+went Way.Obey time rs wr bus byte p = recorded (done time (obeyed byte (p .sheet)) (spanOf byte p) p) say.Taken 0 14
 
 -- a transfer that is neither bad nor back
 unfoldable pub transferred : ℕ → Bool → Bool → ℕ → Panel → Recorded

@@ -9,14 +9,13 @@ use Rattle.laws.specs.Pick.{pick}
 use Rattle.log.specs.Frame.{frameOf}
 use Rattle.chip.specs.declared.sheet.Sheet.{Sheet}
 use Rattle.mirror.specs.Panel.{soundPanel}
-use Rattle.mirror.specs.Way.{nibbleOf, joinedOf, wayOf}
+use Rattle.mirror.specs.Way.{Way, nibbleOf, joinedOf, wayOf}
 use Rattle.mirror.specs.Record.{recorded, free, holding, done, high, went, transferred, answered, recordOf}
 use Rattle.mirror.specs.declared.answer.Answer.{Answer}
 use Rattle.mirror.specs.declared.answer.Answer.the-variants as say
 use Rattle.mirror.specs.declared.half.Half.{Half}
 use Rattle.mirror.specs.declared.half.Half.the-variants.{Empty, Ignored, Waiting}
 use Rattle.mirror.specs.declared.panel.Panel.{Panel}
-use Rattle.mirror.specs.declared.way.Way.{Way}
 
 -- a nibble has four bits
 pub nibble-small : (h : Half) → nibbleOf h < 16
@@ -25,15 +24,19 @@ nibble-small (Ignored rs wr) = omega arith
 nibble-small (Waiting rs wr n) = mod-lt n (omega arith)
 
 -- a transfer by its byte and its way, once they are known
-pub by-way : (time : ℕ) (rs wr : Bool) (bus : ℕ) (p : Panel) (byte : ℕ) (w v : Way) →
+pub by-way : (time : ℕ) (rs wr : Bool) (bus : ℕ) (p : Panel) (byte : ℕ) (v : Way) →
     byte ≡ joinedOf (p .sheet .registers .eight) (p .half) bus →
-    w ≡ wayOf (p .sheet .registers .eight) (p .half) (free time p) rs wr byte →
-    w ≡ v →
+    v ≡ wayOf (p .sheet .registers .eight) (p .half) (free time p) rs wr byte →
     went v time rs wr bus byte p ≡ transferred time rs wr bus p
 unfolding transferred
-by-way time rs wr bus p byte w v b d e =
-    ap (λ x. went x time rs wr bus byte p) (sym e ∙ d) ∙
+by-way time rs wr bus p byte v b d =
+    ap (λ x. went x time rs wr bus byte p) d ∙
     ap (λ y. went (wayOf (p .sheet .registers .eight) (p .half) (free time p) rs wr y) time rs wr bus y p) b
+
+-- equal ways come to equal answers
+pub went-as : (time : ℕ) (rs wr : Bool) (bus byte : ℕ) (p : Panel) (v w : Way) → v ≡ w →
+    went v time rs wr bus byte p ≡ went w time rs wr bus byte p
+went-as time rs wr bus byte p v w e = ap (λ x. went x time rs wr bus byte p) e
 
 -- equal bytes, and equal sheets, come to equal answers
 pub held-as : (time : ℕ) (rs wr : Bool) (p : Panel) (b c : ℕ) → b ≡ c →

@@ -16,31 +16,29 @@ use Rattle.log.specs.FramesLaws.{frames-cut, tail-cut, front-next}
 use Rattle.log.specs.declared.frame.Frame.{Frame}
 use Rattle.log.specs.declared.frame.Frame.the-variants as frame
 use Rattle.chip.specs.Sheet.{freshSheet}
-use Rattle.mirror.specs.Way.{wayOf, joinedOf}
+use Rattle.mirror.specs.Way.{Way, wayOf, joinedOf}
 use Rattle.mirror.specs.Record.{recorded, free, done, went, transferred, answered}
 use Rattle.mirror.specs.Run.{counted, advanced, onward, consumedOf}
 use Rattle.mirror.specs.declared.answer.Answer.the-variants as say
 use Rattle.mirror.specs.declared.panel.Panel.{Panel}
 use Rattle.mirror.specs.declared.record.Recorded.{Recorded}
 use Rattle.mirror.specs.declared.totals.Totals.{Totals}
-use Rattle.mirror.specs.declared.way.Way.{Way}
-use Rattle.mirror.specs.declared.way.Way.the-variants as way
 
 -- every way of a transfer uses its 14 bytes
 went-used : (v : Way) (time : ℕ) (rs wr : Bool) (bus byte : ℕ) (p : Panel) → went v time rs wr bus byte p .used ≡ 14
-went-used way.Torn time rs wr bus byte p = refl
-went-used way.Ignored time rs wr bus byte p = refl
-went-used way.Missed time rs wr bus byte p = refl
-went-used way.Nothing time rs wr bus byte p = refl
-went-used way.HoldStatus time rs wr bus byte p = refl
-went-used way.HoldRead time rs wr bus byte p = refl
-went-used way.HoldWrite time rs wr bus byte p = refl
-went-used way.Status time rs wr bus byte p = refl
-went-used way.StatusEnd time rs wr bus byte p = refl
-went-used way.Read time rs wr bus byte p = refl
-went-used way.ReadEnd time rs wr bus byte p = refl
-went-used way.Write time rs wr bus byte p = refl
-went-used way.Obey time rs wr bus byte p = refl
+went-used Way.Torn time rs wr bus byte p = refl
+went-used Way.Ignored time rs wr bus byte p = refl
+went-used Way.Missed time rs wr bus byte p = refl
+went-used Way.Nothing time rs wr bus byte p = refl
+went-used Way.HoldStatus time rs wr bus byte p = refl
+went-used Way.HoldRead time rs wr bus byte p = refl
+went-used Way.HoldWrite time rs wr bus byte p = refl
+went-used Way.Status time rs wr bus byte p = refl
+went-used Way.StatusEnd time rs wr bus byte p = refl
+went-used Way.Read time rs wr bus byte p = refl
+went-used Way.ReadEnd time rs wr bus byte p = refl
+went-used Way.Write time rs wr bus byte p = refl
+went-used Way.Obey time rs wr bus byte p = refl
 
 -- the bytes used are the frame's
 pub answered-used : (f : Frame) (p : Panel) → answered f p .used ≡ sizeOf f

@@ -11,7 +11,7 @@ use Rattle.log.specs.FrameLaws.Seen.{cut, bad, transfer, reset}
 use Rattle.log.specs.declared.frame.Frame.{Frame}
 use Rattle.chip.specs.Sheet.{freshSheet}
 use Rattle.mirror.specs.Panel.{halfFits, soundPanel}
-use Rattle.mirror.specs.Way.{joinedOf, wholeOf, firstOf, secondOf, wayOf}
+use Rattle.mirror.specs.Way.{Way, joinedOf, wholeOf, firstOf, secondOf, wayOf}
 use Rattle.mirror.specs.Record.{recorded, free, done, went, transferred, answered, recordOf}
 use Rattle.mirror.specs.SoundParts.{Sound, parts}
 use Rattle.mirror.specs.Table.{waits, differs, busyAt, isBack, transferFor, byteFor, panelFor, usedFor, paper, Row, Tabled}
@@ -21,8 +21,6 @@ use Rattle.mirror.specs.declared.half.Half.{Half}
 use Rattle.mirror.specs.declared.half.Half.the-variants.{Empty, Ignored, Waiting}
 use Rattle.mirror.specs.declared.panel.Panel.{Panel}
 use Rattle.mirror.specs.declared.record.Recorded.{Recorded}
-use Rattle.mirror.specs.declared.way.Way.{Way}
-use Rattle.mirror.specs.declared.way.Way.the-variants as way
 
 -- `transferFor` with all that it looks at apart, so that each can be generalised
 abbrev numberBy : Bool → Half → Bool → Bool → Bool → ℕ → ℕ
@@ -73,7 +71,7 @@ module _ (p : Panel) (log : List ℕ) where
 
   -- an instruction write that is complete
   code : (eight : Bool) (half : Half) → Good log false false → (b : Bool) →
-      Goes (pick b 7 0) (pick b way.Nothing way.Obey) (joinedOf eight half (dataOf log)) (at eight half p) log
+      Goes (pick b 7 0) (pick b Way.Nothing Way.Obey) (joinedOf eight half (dataOf log)) (at eight half p) log
   code eight half g true = row refl refl refl (g .size)
   code eight half g false = row refl (rw (g .kind, g .wr-is)) (rw (g .kind, g .rs-is)) (g .size)
 
@@ -102,7 +100,7 @@ module _ (p : Panel) (log : List ℕ) where
   second r w nibble false false g = code false (Waiting r w nibble) g (eqb (joinedOf false (Waiting r w nibble) (dataOf log)) 0)
 
   torn : (h : Half) (byte : ℕ) (a b : Bool) {n : ℕ} (v : Way) → 14 ≡ recordSize log → Goes n v byte (at false h p) log →
-      Goes (pick (a || b) 4 n) (pick a way.Torn (pick b way.Torn v)) byte (at false h p) log
+      Goes (pick (a || b) 4 n) (pick a Way.Torn (pick b Way.Torn v)) byte (at false h p) log
   torn h byte true b v s g = row refl refl refl s
   torn h byte false true v s g = row refl refl refl s
   torn h byte false false v s g = g
@@ -115,7 +113,7 @@ module _ (p : Panel) (log : List ℕ) where
   goes true (Waiting r w nibble) free wr rs f g = absurd (false≢true f)
   goes false Empty free wr rs f g = first (joinedOf false Empty (dataOf log)) free wr rs g
   goes false (Ignored r w) free wr rs f g =
-      torn (Ignored r w) (joinedOf false (Ignored r w) (dataOf log)) (not (Bool·beq r rs)) (not (Bool·beq w wr)) way.Ignored (g .size)
+      torn (Ignored r w) (joinedOf false (Ignored r w) (dataOf log)) (not (Bool·beq r rs)) (not (Bool·beq w wr)) Way.Ignored (g .size)
       (row refl refl refl (g .size))
   goes false (Waiting r w nibble) free wr rs f g =
       let byte = joinedOf false (Waiting r w nibble) (dataOf log) in

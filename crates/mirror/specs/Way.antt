@@ -1,18 +1,36 @@
--- The way that a transfer goes (document 01, "Busy", "Halves"): what the engine decides before it acts.
+-- The way that a transfer goes (document 01, "Busy", "Halves").
 use Prim.Native.Nat.{ℕ, _+_, _*_, _%_, _/_}
 use mathlib.Core.Bool.{Bool, not, Bool·beq}
 use lib.Dec.{eqb}
 use Rattle.laws.specs.Pick.{pick}
 use Rattle.mirror.specs.declared.half.Half.{Half}
-use Rattle.mirror.specs.declared.half.Half.the-variants.{Empty, Ignored, Waiting}
-use Rattle.mirror.specs.declared.way.Way.{Way}
-use Rattle.mirror.specs.declared.way.Way.the-variants as way
+use Rattle.mirror.specs.declared.half.Half.the-variants as half
+
+pub data Way : Type 0 where
+  Torn : Way
+  -- a whole transfer, or the second half of a pair, that the busy chip ignores
+  Ignored : Way
+  -- the first half of a pair that the busy chip ignores
+  Missed : Way
+  Nothing : Way
+  -- the first half of a pair that counts
+  HoldStatus : Way
+  HoldRead : Way
+  HoldWrite : Way
+  -- whole, and as the second half of a pair
+  Status : Way
+  StatusEnd : Way
+  Read : Way
+  ReadEnd : Way
+  -- a byte written, whole or joined: data, or an instruction
+  Write : Way
+  Obey : Way
 
 -- the nibble that waits
 abbrev pub nibbleOf : Half → ℕ
-nibbleOf Empty = 0
-nibbleOf (Ignored rs wr) = 0
-nibbleOf (Waiting rs wr nibble) = nibble % 16
+nibbleOf half.Empty = 0
+nibbleOf (half.Ignored rs wr) = 0
+nibbleOf (half.Waiting rs wr nibble) = nibble % 16
 
 -- at width 8 the data byte is used in full; at width 4 the first transfer gives the high half, the second the low half
 abbrev pub joinedOf : Bool → Half → ℕ → ℕ
@@ -20,31 +38,31 @@ joinedOf eight half bus = pick eight bus (nibbleOf half * 16 + bus / 16)
 
 -- a write whose byte is complete: data, none, or an instruction
 abbrev pub finishOf : Bool → ℕ → Way
-finishOf rs byte = pick rs way.Write (pick (eqb byte 0) way.Nothing way.Obey)
+finishOf rs byte = pick rs Way.Write (pick (eqb byte 0) Way.Nothing Way.Obey)
 
 -- a transfer at width 8
 abbrev pub wholeOf : Bool → Bool → Bool → ℕ → Way
 wholeOf free rs wr byte =
-    pick wr (pick rs (pick free way.Read way.Ignored) way.Status) (pick free (finishOf rs byte) way.Ignored)
+    pick wr (pick rs (pick free Way.Read Way.Ignored) Way.Status) (pick free (finishOf rs byte) Way.Ignored)
 
 -- the first half of a pair: free or busy is decided here for the pair
 abbrev pub firstOf : Bool → Bool → Bool → Way
 firstOf free rs wr =
-    pick wr (pick rs (pick free way.HoldRead way.Missed) way.HoldStatus) (pick free way.HoldWrite way.Missed)
+    pick wr (pick rs (pick free Way.HoldRead Way.Missed) Way.HoldStatus) (pick free Way.HoldWrite Way.Missed)
 
 -- the second half of a pair that counts
 abbrev pub secondOf : Bool → Bool → ℕ → Way
-secondOf rs wr byte = pick wr (pick rs way.ReadEnd way.StatusEnd) (finishOf rs byte)
+secondOf rs wr byte = pick wr (pick rs Way.ReadEnd Way.StatusEnd) (finishOf rs byte)
 
 -- a second half that differs from the first in RS or R/W tears the pair
 abbrev pub unlessTorn : Bool → Bool → Bool → Bool → Way → Way
-unlessTorn r w rs wr v = pick (not (Bool·beq r rs)) way.Torn (pick (not (Bool·beq w wr)) way.Torn v)
+unlessTorn r w rs wr v = pick (not (Bool·beq r rs)) Way.Torn (pick (not (Bool·beq w wr)) Way.Torn v)
 
 -- a transfer at width 4, by the half that waits
 abbrev pub pairOf : Half → Bool → Bool → Bool → ℕ → Way
-pairOf Empty free rs wr byte = firstOf free rs wr
-pairOf (Ignored r w) free rs wr byte = unlessTorn r w rs wr way.Ignored
-pairOf (Waiting r w nibble) free rs wr byte = unlessTorn r w rs wr (secondOf rs wr byte)
+pairOf half.Empty free rs wr byte = firstOf free rs wr
+pairOf (half.Ignored r w) free rs wr byte = unlessTorn r w rs wr Way.Ignored
+pairOf (half.Waiting r w nibble) free rs wr byte = unlessTorn r w rs wr (secondOf rs wr byte)
 
 abbrev pub wayOf : Bool → Half → Bool → Bool → Bool → ℕ → Way
 wayOf eight half free rs wr byte = pick eight (wholeOf free rs wr byte) (pairOf half free rs wr byte)

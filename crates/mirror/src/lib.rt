@@ -7,4 +7,4 @@ mod part;
 pub mod record;
 pub mod stream;
 pub mod totals;
-pub mod way;
+mod transfer;

@@ -1,6 +1,6 @@
 use borrow.Author.Needs.{needs}
-use Rattle.mirror.proofs.way.nibble.Statement.{statement}
-use Rattle.mirror.proofs.way.nibble.Tie as tie
+use Rattle.mirror.proofs.half.nibble.Statement.{statement}
+use Rattle.mirror.proofs.half.nibble.Tie as tie
 
 enum-told : tie.Need-enum-told
 enum-told c = search needs

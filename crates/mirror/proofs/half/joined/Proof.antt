@@ -1,8 +1,8 @@
 use native.Mathlib.Omega.{arith}
 use Rattle.mirror.specs.RecordLaws.{nibble-small}
 use borrow.Author.Needs.{needs}
-use Rattle.mirror.proofs.way.joined.Statement.{statement}
-use Rattle.mirror.proofs.way.joined.Tie as tie
+use Rattle.mirror.proofs.half.joined.Statement.{statement}
+use Rattle.mirror.proofs.half.joined.Tie as tie
 
 returns : tie.Need-returns
 returns c = search needs

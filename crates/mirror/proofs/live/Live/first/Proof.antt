@@ -1,0 +1,86 @@
+use lib.Dec.{leb}
+use Rattle.mirror.specs.Way.{Way, firstOf}
+use denote.Ref.{now}
+use Rattle.mirror.specs.Live.{panelOf}
+use mathlib.Core.Path.{_∙_}
+use mathlib.Core.List.{[]}
+use borrow.Author.Tests.{le-leb, lt-leb}
+use Rattle.mirror.specs.RecordLaws.{went-as, held-as}
+use borrow.Author.Needs.{needs}
+use Rattle.mirror.proofs.live.Live.first.Statement.{statement}
+use Rattle.mirror.proofs.live.Live.first.Tie as tie
+
+here-requires : tie.Need-here-requires
+here-requires c κs = search needs
+
+offer-requires : tie.Need-offer-requires
+offer-requires c κs = search needs
+
+returns : tie.Need-returns
+returns c t byte =
+    let a = c .before .before .before .before .before .before .before .args in
+    let q = panelOf t (a .self) (now (a .display)) (now (a .pattern)) in
+    let w = firstOf (leb (a .self .busy) (a .time)) (a .rs) (a .«rw») in
+    c .offer .ensures _ _ _ ∙ held-as _ _ _ q _ _ (c .before .here .ensures)
+    ∙ went-as _ _ _ _ _ q Way.HoldRead w (rw (c .before .before .before .before .before .before .if1 .taken, c .before .before .before .before .before .if2 .taken, le-leb _ _ (c .before .before .before .if3 .taken)))
+
+hold-requires : tie.Need-hold-requires
+hold-requires c κs = search needs
+
+returns-2 : tie.Need-returns-2
+returns-2 c t byte =
+    let a = c .before .before .before .before .before .args in
+    let q = panelOf t (a .self) (now (a .display)) (now (a .pattern)) in
+    let w = firstOf (leb (a .self .busy) (a .time)) (a .rs) (a .«rw») in
+    c .hold .ensures _ _ _ ∙ went-as _ _ _ _ _ q Way.Missed w (rw (c .before .before .before .before .if1 .taken, c .before .before .before .if2 .taken, lt-leb _ _ (c .before .if3 .left)))
+
+status-requires : tie.Need-status-requires
+status-requires c κs = search needs
+
+offer-requires-2 : tie.Need-offer-requires-2
+offer-requires-2 c κs = search needs
+
+returns-3 : tie.Need-returns-3
+returns-3 c t byte =
+    let a = c .before .before .before .before .args in
+    let q = panelOf t (a .self) (now (a .display)) (now (a .pattern)) in
+    let w = firstOf (leb (a .self .busy) (a .time)) (a .rs) (a .«rw») in
+    c .offer2 .ensures _ _ _ ∙ held-as _ _ _ q _ _ (c .before .status .ensures t [] [])
+    ∙ went-as _ _ _ _ _ q Way.HoldStatus w (rw (c .before .before .before .if1 .taken, c .before .before .if2 .left))
+
+wait-requires : tie.Need-wait-requires
+wait-requires c κs = search needs
+
+returns-4 : tie.Need-returns-4
+returns-4 c t byte =
+    let a = c .before .before .before .before .args in
+    let q = panelOf t (a .self) (now (a .display)) (now (a .pattern)) in
+    let w = firstOf (leb (a .self .busy) (a .time)) (a .rs) (a .«rw») in
+    c .wait .ensures _ _ _ ∙ went-as _ _ _ _ _ q Way.HoldWrite w (rw (c .before .before .before .if1 .left, le-leb _ _ (c .before .if4 .taken)))
+
+hold-requires-2 : tie.Need-hold-requires-2
+hold-requires-2 c κs = search needs
+
+returns-5 : tie.Need-returns-5
+returns-5 c t byte =
+    let a = c .before .before .before .before .args in
+    let q = panelOf t (a .self) (now (a .display)) (now (a .pattern)) in
+    let w = firstOf (leb (a .self .busy) (a .time)) (a .rs) (a .«rw») in
+    c .hold2 .ensures _ _ _ ∙ went-as _ _ _ _ _ q Way.Missed w (rw (c .before .before .before .if1 .left, lt-leb _ _ (c .before .if4 .left)))
+
+pub first-spec : {M : Type 1} → statement M
+first-spec =
+    tie.close
+    (tie.spec
+    here-requires
+    offer-requires
+    returns
+    hold-requires
+    returns-2
+    status-requires
+    offer-requires-2
+    returns-3
+    wait-requires
+    returns-4
+    hold-requires-2
+    returns-5)
