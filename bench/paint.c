@@ -37,11 +37,12 @@ static int paint(const panel *p, int dark) {
 }
 
 int main(void) {
+    static uint8_t whole[65536];
     panel p = {0};
     int cut = 0;
     fresh(&p);
-    ssize_t got = read(0, block, 65536);
-    consume(&p, block, got > 0 ? got : 0, &cut);
+    ssize_t got = read(0, whole, sizeof whole);
+    consume(&p, whole, got > 0 ? got : 0, &cut);
     for (int i = 0; i < 1920; i++) font[i] = 37 * i + 5;
     p.on = p.cursor = p.blink = 1;
     uint64_t total = 0;

@@ -12,7 +12,7 @@ use crate::address::step_round;
 use crate::instruction::Instruction;
 use crate::instruction::decode;
 
-// All of the sheet but its memories.
+// All of the sheet but its memories. The address is not first: docs/DECISIONS.md, "Speed", says what that would cost.
 pub struct Registers {
     pub shift: u8,
     // I/D: up is 1.

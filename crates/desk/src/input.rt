@@ -4,6 +4,9 @@ ghost use mathlib.Core.Path.{_≡_};
 ghost use Rattle.desk.specs.Reads.{Reads, unread};
 use libc::STDIN_FILENO;
 
+// The bytes that a program asks for at once. More makes no program faster, and each holds its block twice while it starts.
+pub const BLOCK: usize = 32768;
+
 // How many reads may follow, 0 after the last; how many bytes the last one brought; and whether it failed. A proved loop
 // has to end, and nothing says that an input does: so reads are counted down from a number that no run uses up.
 pub struct Input {

@@ -2,6 +2,7 @@
 use chip::address::Address;
 use chip::address::DISPLAY_SIZE;
 use desk::arguments::asked;
+use desk::input::BLOCK;
 use desk::input::Input;
 use desk::print::show;
 use desk::print::show_bytes;
@@ -96,7 +97,7 @@ fn main() {
     if !goes_on() {
         return;
     }
-    let mut block = io::large_buffer();
+    let mut block = [0; BLOCK];
     let start = Stream::start(Panel::fresh(RESET, LONG, SHORT));
     let fed = feed_all(start, &mut block);
     if fed.failed {

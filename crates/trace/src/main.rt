@@ -11,6 +11,7 @@ use desk::arguments::Given;
 use desk::arguments::asked;
 use desk::bytes::Bytes;
 use desk::bytes::load;
+use desk::input::BLOCK;
 use desk::print::complain;
 use mirror::panel::Panel;
 use mirror::stream::Stream;
@@ -158,7 +159,7 @@ fn second_place(place: usize) -> usize {
 
 // The lines of the records, then those of the run.
 fn print(panel: Panel, lent: Lent) {
-    let mut block = io::large_buffer();
+    let mut block = [0; BLOCK];
     let done = answer_all(Stream::start(panel), &mut block);
     if done.failed {
         return;

@@ -12,6 +12,7 @@ use desk::arguments::GROUPS;
 use desk::arguments::asked;
 use desk::bytes::Bytes;
 use desk::bytes::load;
+use desk::input::BLOCK;
 use desk::number::Number;
 use desk::number::number_at;
 use desk::print::complain;
@@ -86,7 +87,7 @@ fn show_glass(frame: [u8; FRAME_SIZE], panel: Panel, ascii: bool) {
 
 // Watches the log up to the time, then shows what the glass did.
 fn show_all(places: [usize; GROUPS], until: u64, font: Bytes) {
-    let mut block = io::large_buffer();
+    let mut block = [0; BLOCK];
     let start = Stream::start(Panel::fresh(RESET, LONG, SHORT));
     let seen = watch_all(start, until, &mut block);
     if seen.failed {
