@@ -12,14 +12,14 @@ use crate::address::step_round;
 use crate::instruction::Instruction;
 use crate::instruction::decode;
 
-// All of the sheet but its memories. The address is not first: docs/DECISIONS.md, "Speed", says what that would cost.
+// All of the sheet but its memories.
 pub struct Registers {
+    pub address: Address,
     pub shift: u8,
     // I/D: up is 1.
     pub up: bool,
     // S: a display write shifts the display.
     pub follow: bool,
-    pub address: Address,
     // D, C and B.
     pub on: bool,
     pub cursor: bool,

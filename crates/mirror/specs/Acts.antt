@@ -3,7 +3,7 @@ use Prim.Native.Nat.{ℕ}
 use mathlib.Core.Path.{_≡_}
 use mathlib.Core.Bool.{Bool, false, not, Bool·beq}
 use mathlib.Core.List.{List}
-use lib.Dec.{leb}
+use lib.Dec.{leb, ltb}
 use Rattle.laws.specs.Pick.{pick}
 use Rattle.mirror.specs.Way.{Way, finishOf, firstOf, unlessTorn}
 use Rattle.mirror.specs.Record.{went}
@@ -27,9 +27,9 @@ completesOf eight half free rs wr = pick wr false (pick eight free (endsOf half 
 abbrev pub restOf : Bool → Bool → Bool → Way
 restOf free rs wr = pick wr (pick rs (pick free Way.Read Way.Ignored) Way.Status) Way.Ignored
 
--- the way of a second half that tears no pair and completes none
-abbrev pub endOf : Bool → Bool → Way
-endOf counts rs = pick counts (pick rs Way.ReadEnd Way.StatusEnd) Way.Ignored
+-- the way of a second half that tears no pair and completes none, by what waits
+abbrev pub endOf : ℕ → Bool → Way
+endOf waits rs = pick (ltb waits 2) Way.Ignored (pick rs Way.ReadEnd Way.StatusEnd)
 
 -- what the engine's four steps promise: the state and the memories that a way comes to
 abbrev pub Finishes : ℕ → Bool → ℕ → Times → Live → List ℕ → List ℕ → Live → List ℕ → List ℕ → Type 0
@@ -44,7 +44,7 @@ abbrev pub Begins : ℕ → Bool → Bool → ℕ → Live → List ℕ → List
 Begins time rs wr bus k d p r =
     (t : Times) (byte : ℕ) → recordedOf t r d p ≡ went (firstOf (leb (k .busy) time) rs wr) time rs wr bus byte (panelOf t k d p)
 
-abbrev pub Ends : ℕ → Bool → Bool → Bool → Bool → Bool → Times → Live → Live → Type 0
-Ends time rs wr a b counts t k r =
+abbrev pub Ends : ℕ → Bool → Bool → Times → Live → Live → Type 0
+Ends time rs wr t k r =
     (d p : List ℕ) (bus byte : ℕ) →
-    recordedOf t r d p ≡ went (unlessTorn a b rs wr (endOf counts rs)) time rs wr bus byte (panelOf t k d p)
+    recordedOf t r d p ≡ went (unlessTorn (k .rs) (k .reads) rs wr (endOf (k .waits) rs)) time rs wr bus byte (panelOf t k d p)

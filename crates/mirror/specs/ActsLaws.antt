@@ -1,13 +1,15 @@
 -- The engine tells the ways apart as the meaning does: what each of its steps comes to is what the transfer comes to.
-use Prim.Native.Nat.{ℕ}
+use Prim.Native.Nat.{ℕ, _+_, _*_, _/_, _%_}
 use mathlib.Core.Path.{_≡_, refl, sym, ap, _∙_}
 use mathlib.Core.Bool.{Bool, true, false, not, Bool·beq, false≢true}
+use lib.Dec.{eqb, ltb}
 use Rattle.laws.specs.Pick.{pick}
 use Rattle.mirror.specs.Record.{free, went, transferred}
 use Rattle.mirror.specs.RecordLaws.{by-way}
 use Rattle.mirror.specs.declared.panel.Panel.{Panel}
 use Rattle.mirror.specs.Way.{Way, joinedOf, finishOf, firstOf, secondOf, unlessTorn, wayOf}
-use Rattle.mirror.specs.Acts.{completesOf, restOf, endOf}
+use Rattle.mirror.specs.Acts.{endsOf, completesOf, restOf, endOf}
+use Rattle.mirror.specs.Live.{halfFrom}
 use Rattle.mirror.specs.declared.half.Half.{Half}
 use Rattle.mirror.specs.declared.half.Half.the-variants.{Empty, Ignored, Waiting}
 
@@ -39,25 +41,42 @@ first-way : (eight : Bool) (half : Half) (free rs wr : Bool) (byte : ℕ) → ei
     firstOf free rs wr ≡ wayOf eight half free rs wr byte
 first-way eight half free rs wr byte e h = rw (e, h)
 
--- the second half of an ignored pair
-ignored-way : (eight : Bool) (half : Half) (free rs wr : Bool) (byte : ℕ) (a b : Bool) → eight ≡ false → half ≡ Ignored a b →
-    unlessTorn a b rs wr (endOf false rs) ≡ wayOf eight half free rs wr byte
-ignored-way eight half free rs wr byte a b e h = rw (e, h)
+-- the second half of a pair, ignored or one that counts
+second-way : (ignored : Bool) (free rs wr : Bool) (byte : ℕ) (a b : Bool) (nibble : ℕ) →
+    completesOf false (pick ignored (Ignored a b) (Waiting a b nibble)) free rs wr ≡ false →
+    unlessTorn a b rs wr (pick ignored Way.Ignored (pick rs Way.ReadEnd Way.StatusEnd)) ≡
+    wayOf false (pick ignored (Ignored a b) (Waiting a b nibble)) free rs wr byte
+second-way true free rs wr byte a b nibble c = refl
+second-way false free rs wr byte a b nibble c = by wr (not (Bool·beq a rs)) b c where
+  by : (wr x b : Bool) → pick wr false (pick x false (not b)) ≡ false →
+      pick x Way.Torn (pick (not (Bool·beq b wr)) Way.Torn (pick rs Way.ReadEnd Way.StatusEnd)) ≡
+      pick x Way.Torn (pick (not (Bool·beq b wr)) Way.Torn (secondOf rs wr byte))
+  by true x b c = refl
+  by false true b c = refl
+  by false false true c = refl
+  by false false false c = absurd (false≢true (sym c))
 
--- the rest of the second halves of pairs that count
-second-way : (eight : Bool) (half : Half) (free rs wr : Bool) (byte : ℕ) (a b : Bool) (nibble : ℕ) →
-    completesOf eight half free rs wr ≡ false → eight ≡ false → half ≡ Waiting a b nibble →
-    unlessTorn a b rs wr (endOf true rs) ≡ wayOf eight half free rs wr byte
-second-way eight half free rs wr byte a b nibble c e h =
-    let known = ap (λ x. completesOf x half free rs wr) e ∙ ap (λ x. completesOf false x free rs wr) h in
-    rw (e, h) (by wr (not (Bool·beq a rs)) b (sym known ∙ c)) where
-      by : (wr x b : Bool) → pick wr false (pick x false (not b)) ≡ false →
-          pick x Way.Torn (pick (not (Bool·beq b wr)) Way.Torn (endOf true rs)) ≡
-          pick x Way.Torn (pick (not (Bool·beq b wr)) Way.Torn (secondOf rs wr byte))
-      by true x b c = refl
-      by false true b c = refl
-      by false false true c = refl
-      by false false false c = absurd (false≢true (sym c))
+-- where a half waits
+waits-some : (w : ℕ) (a b : Bool) (nibble : ℕ) → eqb w 0 ≡ false → halfFrom w a b nibble ≡ pick (ltb w 2) (Ignored a b) (Waiting a b nibble)
+waits-some w a b nibble z = ap (λ x. pick (ltb w 2) (pick x Empty (Ignored a b)) (Waiting a b nibble)) z
+
+-- a half that does not count completes nothing
+pub few-ends : (none : Bool) (a b rs : Bool) → endsOf (pick none Empty (Ignored a b)) rs ≡ false
+few-ends true a b rs = refl
+few-ends false a b rs = refl
+
+never : (wr : Bool) → pick wr false false ≡ false
+never true = refl
+never false = refl
+
+-- the byte that completes
+joins : (eight few none free rs wr a b : Bool) (nibble bus : ℕ) →
+    completesOf eight (pick few (pick none Empty (Ignored a b)) (Waiting a b nibble)) free rs wr ≡ true →
+    pick eight bus (nibble % 16 * 16 + bus / 16) ≡ joinedOf eight (pick few (pick none Empty (Ignored a b)) (Waiting a b nibble)) bus
+joins true few none free rs wr a b nibble bus c = refl
+joins false true true free rs wr a b nibble bus c = absurd (false≢true (sym (never wr) ∙ c))
+joins false true false free rs wr a b nibble bus c = absurd (false≢true (sym (never wr) ∙ c))
+joins false false none free rs wr a b nibble bus c = refl
 
 module _ (time : ℕ) (rs wr : Bool) (bus : ℕ) (p : Panel) where
   abbrev completes : Bool
@@ -69,8 +88,14 @@ module _ (time : ℕ) (rs wr : Bool) (bus : ℕ) (p : Panel) where
   abbrev Comes : Way → ℕ → Type 0
   Comes v b = went v time rs wr bus b p ≡ transferred time rs wr bus p
 
-  pub finished : (b : ℕ) → b ≡ byte → completes ≡ true → Comes (finishOf rs b) b
-  finished b j e = by-way time rs wr bus p b (finishOf rs b) j (complete-way (p .sheet .registers .eight) (p .half) (free time p) rs wr b e)
+  pub finished : (w : ℕ) (a b : Bool) (nibble : ℕ) (c : ℕ) → p .half ≡ halfFrom w a b nibble →
+      c ≡ pick (p .sheet .registers .eight) bus (nibble % 16 * 16 + bus / 16) → completes ≡ true → Comes (finishOf rs c) c
+  finished w a b nibble c h j e =
+      let eight = p .sheet .registers .eight in
+      let known = sym (ap (λ x. completesOf eight x (free time p) rs wr) h) ∙ e in
+      by-way time rs wr bus p c (finishOf rs c)
+      (j ∙ joins eight (ltb w 2) (eqb w 0) (free time p) rs wr a b nibble bus known ∙ sym (ap (λ x. joinedOf eight x bus) h))
+      (complete-way eight (p .half) (free time p) rs wr c e)
 
   pub rested : completes ≡ false → p .sheet .registers .eight ≡ true → Comes (restOf (free time p) rs wr) byte
   rested c e =
@@ -82,13 +107,12 @@ module _ (time : ℕ) (rs wr : Bool) (bus : ℕ) (p : Panel) where
       by-way time rs wr bus p byte (firstOf (free time p) rs wr) refl
       (first-way (p .sheet .registers .eight) (p .half) (free time p) rs wr byte e h)
 
-  pub missed : (a b : Bool) → p .sheet .registers .eight ≡ false → p .half ≡ Ignored a b → Comes (unlessTorn a b rs wr (endOf false rs)) byte
-  missed a b e h =
-      by-way time rs wr bus p byte (unlessTorn a b rs wr (endOf false rs)) refl
-      (ignored-way (p .sheet .registers .eight) (p .half) (free time p) rs wr byte a b e h)
-
-  pub ended : (a b : Bool) (nibble : ℕ) → completes ≡ false → p .sheet .registers .eight ≡ false → p .half ≡ Waiting a b nibble →
-      Comes (unlessTorn a b rs wr (endOf true rs)) byte
-  ended a b nibble c e h =
-      by-way time rs wr bus p byte (unlessTorn a b rs wr (endOf true rs)) refl
-      (second-way (p .sheet .registers .eight) (p .half) (free time p) rs wr byte a b nibble c e h)
+  pub ended : (w : ℕ) (a b : Bool) (nibble : ℕ) → completes ≡ false → p .sheet .registers .eight ≡ false → eqb w 0 ≡ false →
+      p .half ≡ halfFrom w a b nibble → Comes (unlessTorn a b rs wr (endOf w rs)) byte
+  ended w a b nibble c e z h =
+      let half = pick (ltb w 2) (Ignored a b) (Waiting a b nibble) in
+      let at = h ∙ waits-some w a b nibble z in
+      let same = ap (λ x. completesOf x (p .half) (free time p) rs wr) e ∙ ap (λ x. completesOf false x (free time p) rs wr) at in
+      by-way time rs wr bus p byte (unlessTorn a b rs wr (endOf w rs)) refl
+      (second-way (ltb w 2) (free time p) rs wr byte a b nibble (sym same ∙ c)
+      ∙ sym (ap (λ x. wayOf x (p .half) (free time p) rs wr byte) e ∙ ap (λ x. wayOf false x (free time p) rs wr byte) at))

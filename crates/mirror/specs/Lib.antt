@@ -2,7 +2,10 @@ pub mod Answer
 pub mod Panel
 pub mod Way
 pub mod Record
+pub mod Flat
+pub mod FlatLaws
 pub mod Live
+pub mod LiveLaws
 pub mod Acts
 pub mod ActsLaws
 pub mod RecordLaws

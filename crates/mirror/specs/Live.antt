@@ -2,36 +2,41 @@
 use Prim.Native.Nat.{ℕ, _*_, _/_, _%_}
 use mathlib.Core.Path.{_≡_}
 use mathlib.Core.List.{List}
+use lib.Dec.{eqb, ltb}
+use Rattle.laws.specs.Pick.{pick}
 use Rattle.chip.specs.Sheet.{sheetOf}
+use Rattle.mirror.specs.Flat.{registersFrom}
 use Rattle.chip.specs.declared.registers.Registers.{Registers}
 use Rattle.mirror.specs.Record.{recorded, holding, statusOf, done}
 use Rattle.mirror.specs.declared.answer.Answer.{Answer}
 use Rattle.mirror.specs.declared.answer.Answer.the-variants as say
 use mathlib.Core.Bool.{Bool}
 use Rattle.mirror.specs.declared.half.Half.{Half}
-use Rattle.mirror.specs.declared.half.Half.the-variants.{Empty, Waiting}
+use Rattle.mirror.specs.declared.half.Half.the-variants.{Empty, Ignored, Waiting}
 use Rattle.mirror.specs.declared.live.Live.{Live}
 use Rattle.mirror.specs.declared.panel.Panel.{Panel}
 use Rattle.mirror.specs.declared.panel.Times.{Times}
 use Rattle.mirror.specs.declared.record.Recorded.{Recorded}
 use Rattle.mirror.specs.declared.totals.Totals.{Totals}
 
+-- the registers of a state
+abbrev pub registersOf : Live → Registers
+registersOf k = registersFrom (k .patterned) (k .place) (k .shift) (k .modes)
+
+-- the half that waits: none, one that the busy chip ignored, or one that counts
+abbrev pub halfFrom : ℕ → Bool → Bool → ℕ → Half
+halfFrom waits rs reads nibble = pick (ltb waits 2) (pick (eqb waits 0) Empty (Ignored rs reads)) (Waiting rs reads nibble)
+
+abbrev pub halfOf : Live → Half
+halfOf k = halfFrom (k .waits) (k .rs) (k .reads) (k .nibble)
+
 -- the panel of a state and its memories
 abbrev pub panelOf : Times → Live → List ℕ → List ℕ → Panel
-panelOf t k d p = record { sheet = sheetOf (k .registers) d p; busy = k .busy; half = k .half; times = t; last = k .last }
+panelOf t k d p = record { sheet = sheetOf (registersOf k) d p; busy = k .busy; half = halfOf k; times = t; last = k .last }
 
--- a panel without its memories and times; nothing is answered yet
-abbrev pub liveOf : Panel → Live
-liveOf p =
-    record {
-      registers = p .sheet .registers;
-      busy = p .busy;
-      half = p .half;
-      last = p .last;
-      answer = say.Cut;
-      byte = 0;
-      used = 0;
-    }
+-- a panel without its memories and times
+abbrev pub Opens : Panel → Live → Type 0
+Opens p k = panelOf (p .times) k (p .sheet .display) (p .sheet .pattern) ≡ p
 
 -- the panel of a state with the answer to it
 abbrev pub recordedOf : Times → Live → List ℕ → List ℕ → Recorded
@@ -51,8 +56,15 @@ Waits time rs wr nibble byte k r = Holds time (Waiting rs wr nibble) say.Held by
 abbrev pub Offers : ℕ → Bool → Bool → ℕ → Live → Live → Type 0
 Offers time rs wr byte k r = Waits time rs wr (byte % 16) (byte / 16 * 16) k r
 
+abbrev pub Passes : ℕ → Answer → ℕ → ℕ → Live → Live → Type 0
+Passes time answer byte used k r =
+    (t : Times) (d p : List ℕ) → recordedOf t r d p ≡ recorded (holding time Empty (panelOf t k d p)) answer byte used
+
+abbrev pub Misses : ℕ → Bool → Bool → Live → Live → Type 0
+Misses time rs wr k r = Holds time (Ignored rs wr) say.Ignored 0 k r
+
 abbrev pub Tears : ℕ → Live → Live → Type 0
-Tears time k r = Holds time Empty say.Torn 0 k r
+Tears time k r = Passes time say.Torn 0 14 k r
 
 abbrev pub Shows : ℕ → Live → ℕ → Type 0
 Shows time k r = (t : Times) (d p : List ℕ) → r ≡ statusOf time (panelOf t k d p)

@@ -1,27 +1,20 @@
 -- Laws of one record that the engine's proofs cite.
-use Prim.Native.Nat.{ℕ, _%_, _<_}
+use Prim.Native.Nat.{ℕ, _%_}
 use mathlib.Core.Path.{_≡_, sym, ap, _∙_}
 use mathlib.Core.Bool.{Bool, true, false}
 use mathlib.Core.List.{List}
-use native.Mathlib.Omega.{arith}
-use native.Mathlib.Nat.{mod-lt}
 use Rattle.laws.specs.Pick.{pick}
 use Rattle.log.specs.Frame.{frameOf}
+use Rattle.chip.specs.Sheet.{sheetOf, readHere}
+use Rattle.chip.specs.declared.registers.Registers.{Registers}
 use Rattle.chip.specs.declared.sheet.Sheet.{Sheet}
 use Rattle.mirror.specs.Panel.{soundPanel}
-use Rattle.mirror.specs.Way.{Way, nibbleOf, joinedOf, wayOf}
+use Rattle.mirror.specs.Way.{Way, joinedOf, wayOf}
 use Rattle.mirror.specs.Record.{recorded, free, holding, done, high, went, transferred, answered, recordOf}
 use Rattle.mirror.specs.declared.answer.Answer.{Answer}
 use Rattle.mirror.specs.declared.answer.Answer.the-variants as say
-use Rattle.mirror.specs.declared.half.Half.{Half}
-use Rattle.mirror.specs.declared.half.Half.the-variants.{Empty, Ignored, Waiting}
+use Rattle.mirror.specs.declared.half.Half.the-variants.{Waiting}
 use Rattle.mirror.specs.declared.panel.Panel.{Panel}
-
--- a nibble has four bits
-pub nibble-small : (h : Half) → nibbleOf h < 16
-nibble-small Empty = omega arith
-nibble-small (Ignored rs wr) = omega arith
-nibble-small (Waiting rs wr n) = mod-lt n (omega arith)
 
 -- a transfer by its byte and its way, once they are known
 pub by-way : (time : ℕ) (rs wr : Bool) (bus : ℕ) (p : Panel) (byte : ℕ) (v : Way) →
@@ -50,6 +43,13 @@ pub done-as : (time : ℕ) (s t : Sheet) (span : ℕ) (p : Panel) (b c used : �
     recorded (done time s span p) say.Taken b used ≡ recorded (done time t span p) say.Taken c used
 done-as time s t span p b c used e f =
     ap (λ x. recorded (done time x span p) say.Taken b used) e ∙ ap (λ y. recorded (done time t span p) say.Taken y used) f
+
+-- a step of equal registers
+pub stepped-as : (f : Sheet → Sheet) (s : Sheet) (r q : Registers) (d p : List ℕ) → s ≡ f (sheetOf r d p) → r ≡ q → s ≡ f (sheetOf q d p)
+stepped-as f s r q d p e g = e ∙ ap (λ x. f (sheetOf x d p)) g
+
+pub read-as : (b : ℕ) (r q : Registers) (d p : List ℕ) → b ≡ readHere r d p → r ≡ q → b ≡ readHere q d p
+read-as b r q d p e g = e ∙ ap (λ x. readHere x d p) g
 
 pub span-as : (time : ℕ) (s : Sheet) (span width : ℕ) (p : Panel) (b used : ℕ) → span ≡ width →
     recorded (done time s span p) say.Taken b used ≡ recorded (done time s width p) say.Taken b used

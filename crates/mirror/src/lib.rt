@@ -1,7 +1,8 @@
 // The mirror: the panel, which is the sheet's machine with a clock and at most one waiting half, and its answers.
 pub mod answer;
+mod flat;
 pub mod half;
-pub mod live;
+mod live;
 pub mod panel;
 mod part;
 pub mod record;

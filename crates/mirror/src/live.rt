@@ -1,11 +1,17 @@
-// The engine: a panel taken apart, so that a record costs no copy of the memories, with what it last answered.
+// The engine's state: a panel without its memories and times, laid flat, with what it last answered.
 ghost use mathlib.Core.Path.{_≡_};
 ghost use Prim.Native.Nat.{_<_};
 ghost use lib.Dec.{ltb};
 ghost use Rattle.laws.specs.Pick.{pick};
 ghost use Rattle.mirror.specs.Panel.{timeEnd};
-ghost use Rattle.mirror.specs.Live.{panelOf, liveOf, Refuses, Holds, Waits, Offers, Tears, Does, Shows};
+ghost use Rattle.mirror.specs.Live.{registersOf, halfOf, panelOf, Opens, Refuses, Passes, Misses, Waits, Offers, Tears, Does, Shows};
 use crate::answer::Answer;
+use crate::flat::Modes;
+use crate::flat::address;
+use crate::flat::modes_of;
+use crate::flat::patterned;
+use crate::flat::place;
+use crate::flat::registers;
 use crate::half::Half;
 use crate::panel::Panel;
 use crate::panel::Times;
@@ -15,9 +21,18 @@ use chip::registers::Registers;
 use chip::sheet::Sheet;
 
 pub struct Live {
-    pub registers: Registers,
+    // The address: of which memory, and its number.
+    pub patterned: bool,
+    pub place: u8,
+    pub shift: u8,
+    pub modes: Modes,
     pub busy: u64,
-    pub half: Half,
+    // The half that waits: 0 for none, 1 for one that the busy chip ignored, and otherwise one that counts. Its bits and
+    // its nibble say nothing where none waits.
+    pub waits: u8,
+    pub rs: bool,
+    pub reads: bool,
+    pub nibble: u8,
     pub last: u64,
     pub answer: Answer,
     pub byte: u8,
@@ -32,26 +47,74 @@ pub(crate) fn span(times: Times, code: u8) -> u16
 }
 
 impl Live {
-    // A panel without its memories and times; nothing is answered yet.
-    pub fn of(panel: Panel) -> Live
-        ensures { λ r. ⌜ r ≡ liveOf panel ⌝ }
+    // A panel without its memories and times.
+    pub(crate) fn of(panel: Panel) -> Live
+        ensures { λ r. ⌜ Opens panel r ⌝ }
     {
         let s = panel.sheet;
-        let registers = s.registers;
-        let half = panel.half;
-        Live {
-            registers,
+        let r = s.registers;
+        let a = r.address;
+        let bare = Live {
+            patterned: patterned(a),
+            place: place(a),
+            shift: r.shift,
+            modes: modes_of(r),
             busy: panel.busy,
-            half,
+            waits: 2,
+            rs: false,
+            reads: false,
+            nibble: 0,
             last: panel.last,
             answer: Answer::Cut,
             byte: 0,
             used: 0,
+        };
+        let half = panel.half;
+        match half {
+            Half::Empty => Live { waits: 0, ..bare },
+            Half::Ignored { rs, rw } => Live {
+                waits: 1,
+                rs,
+                reads: rw,
+                ..bare
+            },
+            Half::Waiting { rs, rw, nibble } => Live {
+                rs,
+                reads: rw,
+                nibble,
+                ..bare
+            },
+        }
+    }
+
+    pub(crate) fn registers(self) -> Registers
+        ensures { λ r. ⌜ r ≡ registersOf self ⌝ }
+    {
+        let m = self.modes;
+        registers(self.patterned, self.place, self.shift, m)
+    }
+
+    pub(crate) fn half(self) -> Half
+        ensures { λ r. ⌜ r ≡ halfOf self ⌝ }
+    {
+        if self.waits < 2 {
+            if self.waits == 0 {
+                return Half::Empty;
+            }
+            return Half::Ignored {
+                rs: self.rs,
+                rw: self.reads,
+            };
+        }
+        Half::Waiting {
+            rs: self.rs,
+            rw: self.reads,
+            nibble: self.nibble,
         }
     }
 
     // The panel put together again.
-    pub fn panel(
+    pub(crate) fn panel(
         self,
         times: Times,
         display: [u8; DISPLAY_SIZE],
@@ -59,8 +122,8 @@ impl Live {
     ) -> Panel
         ensures { λ r. ⌜ r ≡ panelOf times self display pattern ⌝ }
     {
-        let registers = self.registers;
-        let half = self.half;
+        let registers = self.registers();
+        let half = self.half();
         let sheet = Sheet {
             registers,
             display,
@@ -87,16 +150,16 @@ impl Live {
         }
     }
 
-    // Nothing is carried out; this half waits afterwards.
-    pub(crate) fn hold(self, time: u64, half: Half, answer: Answer, byte: u8) -> Live
-        ensures { λ r. ⌜ Holds time half answer byte self r ⌝ }
+    // Nothing is carried out, and no half waits afterwards.
+    pub(crate) fn pass(self, time: u64, answer: Answer, byte: u8, used: usize) -> Live
+        ensures { λ r. ⌜ Passes time answer byte used self r ⌝ }
     {
         Live {
-            half,
+            waits: 0,
             last: time,
             answer,
             byte,
-            used: 14,
+            used,
             ..self
         }
     }
@@ -105,7 +168,47 @@ impl Live {
     pub(crate) fn tear(self, time: u64) -> Live
         ensures { λ r. ⌜ Tears time self r ⌝ }
     {
-        self.hold(time, Half::Empty, Answer::Torn, 0)
+        self.pass(time, Answer::Torn, 0, 14)
+    }
+
+    // The first half of a pair that the busy chip ignores.
+    pub(crate) fn miss(self, time: u64, rs: bool, rw: bool) -> Live
+        ensures { λ r. ⌜ Misses time rs rw self r ⌝ }
+    {
+        Live {
+            waits: 1,
+            rs,
+            reads: rw,
+            last: time,
+            answer: Answer::Ignored,
+            byte: 0,
+            used: 14,
+            ..self
+        }
+    }
+
+    // The first half of a pair that counts.
+    pub(crate) fn wait(self, time: u64, rs: bool, rw: bool, nibble: u8, byte: u8) -> Live
+        ensures { λ r. ⌜ Waits time rs rw nibble byte self r ⌝ }
+    {
+        Live {
+            waits: 2,
+            rs,
+            reads: rw,
+            nibble,
+            last: time,
+            answer: Answer::Held,
+            byte,
+            used: 14,
+            ..self
+        }
+    }
+
+    // The first half of a read that counts: the low half waits.
+    pub(crate) fn offer(self, time: u64, rs: bool, rw: bool, byte: u8) -> Live
+        ensures { λ r. ⌜ Offers time rs rw byte self r ⌝ }
+    {
+        self.wait(time, rs, rw, byte % 16, byte / 16 * 16)
     }
 
     // Carried out, with the registers as they then are.
@@ -120,14 +223,15 @@ impl Live {
         requires { ⌜ time < timeEnd ⌝ }
         ensures { λ r. ⌜ Does registers time span byte used self r ⌝ }
     {
+        let a = registers.address;
+        let left = self.pass(time, Answer::Taken, byte, used);
         Live {
-            registers,
+            patterned: patterned(a),
+            place: place(a),
+            shift: registers.shift,
+            modes: modes_of(registers),
             busy: time + span as u64,
-            half: Half::Empty,
-            last: time,
-            answer: Answer::Taken,
-            byte,
-            used,
+            ..left
         }
     }
 
@@ -135,23 +239,8 @@ impl Live {
     pub(crate) fn status(self, time: u64) -> u8
         ensures { λ r. ⌜ Shows time self r ⌝ }
     {
-        let r = self.registers;
-        let a = r.address;
+        let a = address(self.patterned, self.place);
         let n = a.number();
         if self.busy <= time { n } else { 128 + n }
-    }
-
-    // The first half of a pair that counts.
-    pub(crate) fn wait(self, time: u64, rs: bool, rw: bool, nibble: u8, byte: u8) -> Live
-        ensures { λ r. ⌜ Waits time rs rw nibble byte self r ⌝ }
-    {
-        self.hold(time, Half::Waiting { rs, rw, nibble }, Answer::Held, byte)
-    }
-
-    // The first half of a read that counts: the low half waits.
-    pub(crate) fn offer(self, time: u64, rs: bool, rw: bool, byte: u8) -> Live
-        ensures { λ r. ⌜ Offers time rs rw byte self r ⌝ }
-    {
-        self.wait(time, rs, rw, byte % 16, byte / 16 * 16)
     }
 }

@@ -1,18 +1,15 @@
 // A record's turn, and what a transfer comes to. A byte that completes is told first, so that what acts on it stands in one
 // place: the compiler sets that into the loop over records, and keeps what it would need twice out of it.
 ghost use mathlib.Core.Path.{_≡_};
-ghost use Prim.Native.Nat.{_<_};
+ghost use Prim.Native.Nat.{_+_, _*_, _/_, _%_, _<_};
 ghost use lib.Dec.{leb};
+ghost use Rattle.laws.specs.Pick.{pick};
 ghost use Rattle.log.specs.Frame.{frameOf};
 ghost use Rattle.mirror.specs.Panel.{timeEnd};
 ghost use Rattle.mirror.specs.Record.{transferred, answered};
-ghost use Rattle.mirror.specs.Live.{panelOf, recordedOf};
+ghost use Rattle.mirror.specs.Live.{halfOf, panelOf, recordedOf};
 ghost use Rattle.mirror.specs.Acts.{completesOf, Finishes, Rests, Begins, Ends};
 use crate::answer::Answer;
-use crate::half::Half;
-use crate::half::ends;
-use crate::half::joined;
-use crate::half::nibble;
 use crate::live::Live;
 use crate::live::span;
 use crate::panel::Panel;
@@ -28,17 +25,33 @@ impl Live {
     // Whether the chip takes a byte that this transfer completes: written whole while it is free, or the second half of a
     // pair that counts.
     fn completes(self, time: u64, rs: bool, rw: bool) -> bool
-        ensures { λ r. ⌜ r ≡ completesOf (self .registers .eight) (self .half) (leb (self .busy) time) rs rw ⌝ }
+        ensures { λ r. ⌜ r ≡ completesOf (self .modes .eight) (halfOf self) (leb (self .busy) time) rs rw ⌝ }
     {
         if rw {
             return false;
         }
-        let r = self.registers;
-        if r.eight {
+        let m = self.modes;
+        if m.eight {
             return self.busy <= time;
         }
-        let half = self.half;
-        ends(half, rs)
+        if self.waits < 2 {
+            return false;
+        }
+        if self.rs != rs {
+            return false;
+        }
+        !self.reads
+    }
+
+    // The byte that completes: whole, or joined of two halves.
+    fn joined(self, bus: u8) -> u8
+        ensures { λ r. ⌜ r ≡ pick (self .modes .eight) bus (self .nibble % 16 * 16 + bus / 16) ⌝ }
+    {
+        let m = self.modes;
+        if m.eight {
+            return bus;
+        }
+        self.nibble % 16 * 16 + bus / 16
     }
 
     // A byte that is complete: data, none, or an instruction.
@@ -54,13 +67,13 @@ impl Live {
         requires { ⌜ time < timeEnd ⌝ }
         ensures { λ r. ⌜ Finishes time rs byte times self (now (display .entry)) (now (pattern .entry)) r (now (display .exit)) (now (pattern .exit)) ⌝ }
     {
-        let r = self.registers;
+        let r = self.registers();
         if rs {
             let next = r.write(byte, display, pattern);
             return self.done(next, time, times.short, 0, 14);
         }
         if byte == 0 {
-            return self.hold(time, Half::Empty, Answer::Nothing, 0);
+            return self.pass(time, Answer::Nothing, 0, 14);
         }
         let next = r.obey(byte, display);
         self.done(next, time, span(times, byte), 0, 14)
@@ -82,15 +95,15 @@ impl Live {
         if rw {
             if rs {
                 if self.busy <= time {
-                    let r = self.registers;
+                    let r = self.registers();
                     let b = r.here(display, pattern);
                     return self.done(r.read(), time, times.short, b, 14);
                 }
-                return self.hold(time, Half::Empty, Answer::Ignored, 0);
+                return self.pass(time, Answer::Ignored, 0, 14);
             }
-            return self.hold(time, Half::Empty, Answer::Status, self.status(time));
+            return self.pass(time, Answer::Status, self.status(time), 14);
         }
-        self.hold(time, Half::Empty, Answer::Ignored, 0)
+        self.pass(time, Answer::Ignored, 0, 14)
     }
 
     // The first half of a pair: whether it counts is decided here for the pair.
@@ -108,49 +121,39 @@ impl Live {
         if rw {
             if rs {
                 if self.busy <= time {
-                    let r = self.registers;
+                    let r = self.registers();
                     return self.offer(time, rs, rw, r.here(display, pattern));
                 }
-                return self.hold(time, Half::Ignored { rs, rw }, Answer::Ignored, 0);
+                return self.miss(time, rs, rw);
             }
             return self.offer(time, rs, rw, self.status(time));
         }
         if self.busy <= time {
             return self.wait(time, rs, rw, bus / 16, 0);
         }
-        self.hold(time, Half::Ignored { rs, rw }, Answer::Ignored, 0)
+        self.miss(time, rs, rw)
     }
 
-    // The second half of a pair whose first half had these bits; it completes no byte.
-    fn second(
-        self,
-        times: Times,
-        time: u64,
-        rs: bool,
-        rw: bool,
-        first_rs: bool,
-        first_rw: bool,
-        counts: bool,
-    ) -> Live
+    // The second half of a pair; it completes no byte.
+    fn second(self, times: Times, time: u64, rs: bool, rw: bool) -> Live
         requires { ⌜ time < timeEnd ⌝ }
-        ensures { λ r. ⌜ Ends time rs rw «first_rs» «first_rw» counts times self r ⌝ }
+        ensures { λ r. ⌜ Ends time rs rw times self r ⌝ }
     {
-        if first_rs != rs {
+        if self.rs != rs {
             return self.tear(time);
         }
-        if first_rw != rw {
+        if self.reads != rw {
             return self.tear(time);
         }
-        if counts {
-            let half = self.half;
-            let low = nibble(half) * 16;
-            if rs {
-                let r = self.registers;
-                return self.done(r.read(), time, times.short, low, 14);
-            }
-            return self.hold(time, Half::Empty, Answer::Status, low);
+        if self.waits < 2 {
+            return self.pass(time, Answer::Ignored, 0, 14);
         }
-        self.hold(time, Half::Empty, Answer::Ignored, 0)
+        let low = self.nibble % 16 * 16;
+        if rs {
+            let r = self.registers();
+            return self.done(r.read(), time, times.short, low, 14);
+        }
+        self.pass(time, Answer::Status, low, 14)
     }
 
     // A transfer that is neither bad nor back.
@@ -167,28 +170,22 @@ impl Live {
         requires { ⌜ time < timeEnd ⌝ }
         ensures { λ r. ⌜ recordedOf times r (now (display .exit)) (now (pattern .exit)) ≡ transferred time rs rw bus (panelOf times self (now (display .entry)) (now (pattern .entry))) ⌝ }
     {
-        let r = self.registers;
-        let half = self.half;
+        let m = self.modes;
         if self.completes(time, rs, rw) {
-            let byte = joined(r.eight, half, bus);
+            let byte = self.joined(bus);
             return self.finish(times, time, rs, byte, display, pattern);
         }
-        if r.eight {
+        if m.eight {
             return self.whole(times, time, rs, rw, display, pattern);
         }
-        match half {
-            Half::Empty => self.first(time, rs, rw, bus, display, pattern),
-            Half::Ignored { rs: a, rw: b } => self.second(times, time, rs, rw, a, b, false),
-            Half::Waiting {
-                rs: a,
-                rw: b,
-                nibble: _,
-            } => self.second(times, time, rs, rw, a, b, true),
+        if self.waits == 0 {
+            return self.first(time, rs, rw, bus, display, pattern);
         }
+        self.second(times, time, rs, rw)
     }
 
     // One record at the front of the log.
-    pub fn turn(
+    pub(crate) fn turn(
         self,
         times: Times,
         log: &[u8],

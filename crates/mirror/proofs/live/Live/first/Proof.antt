@@ -1,14 +1,17 @@
-use lib.Dec.{leb}
-use Rattle.mirror.specs.Way.{Way, firstOf}
 use denote.Ref.{now}
-use Rattle.mirror.specs.Live.{panelOf}
 use mathlib.Core.Path.{_∙_}
 use mathlib.Core.List.{[]}
+use lib.Dec.{leb}
 use borrow.Author.Tests.{le-leb, lt-leb}
-use Rattle.mirror.specs.RecordLaws.{went-as, held-as}
+use Rattle.mirror.specs.Way.{Way, firstOf}
+use Rattle.mirror.specs.Live.{panelOf}
+use Rattle.mirror.specs.RecordLaws.{went-as, held-as, read-as}
 use borrow.Author.Needs.{needs}
 use Rattle.mirror.proofs.live.Live.first.Statement.{statement}
 use Rattle.mirror.proofs.live.Live.first.Tie as tie
+
+registers-requires : tie.Need-registers-requires
+registers-requires c κs = search needs
 
 here-requires : tie.Need-here-requires
 here-requires c κs = search needs
@@ -21,18 +24,18 @@ returns c t byte =
     let a = c .before .before .before .before .before .before .before .args in
     let q = panelOf t (a .self) (now (a .display)) (now (a .pattern)) in
     let w = firstOf (leb (a .self .busy) (a .time)) (a .rs) (a .«rw») in
-    c .offer .ensures _ _ _ ∙ held-as _ _ _ q _ _ (c .before .here .ensures)
+    c .offer .ensures _ _ _ ∙ held-as _ _ _ q _ _ (read-as _ _ _ _ _ (c .before .here .ensures) (c .before .before .registers .ensures))
     ∙ went-as _ _ _ _ _ q Way.HoldRead w (rw (c .before .before .before .before .before .before .if1 .taken, c .before .before .before .before .before .if2 .taken, le-leb _ _ (c .before .before .before .if3 .taken)))
 
-hold-requires : tie.Need-hold-requires
-hold-requires c κs = search needs
+miss-requires : tie.Need-miss-requires
+miss-requires c κs = search needs
 
 returns-2 : tie.Need-returns-2
 returns-2 c t byte =
     let a = c .before .before .before .before .before .args in
     let q = panelOf t (a .self) (now (a .display)) (now (a .pattern)) in
     let w = firstOf (leb (a .self .busy) (a .time)) (a .rs) (a .«rw») in
-    c .hold .ensures _ _ _ ∙ went-as _ _ _ _ _ q Way.Missed w (rw (c .before .before .before .before .if1 .taken, c .before .before .before .if2 .taken, lt-leb _ _ (c .before .if3 .left)))
+    c .miss .ensures _ _ _ ∙ went-as _ _ _ _ _ q Way.Missed w (rw (c .before .before .before .before .if1 .taken, c .before .before .before .if2 .taken, lt-leb _ _ (c .before .if3 .left)))
 
 status-requires : tie.Need-status-requires
 status-requires c κs = search needs
@@ -58,29 +61,30 @@ returns-4 c t byte =
     let w = firstOf (leb (a .self .busy) (a .time)) (a .rs) (a .«rw») in
     c .wait .ensures _ _ _ ∙ went-as _ _ _ _ _ q Way.HoldWrite w (rw (c .before .before .before .if1 .left, le-leb _ _ (c .before .if4 .taken)))
 
-hold-requires-2 : tie.Need-hold-requires-2
-hold-requires-2 c κs = search needs
+miss-requires-2 : tie.Need-miss-requires-2
+miss-requires-2 c κs = search needs
 
 returns-5 : tie.Need-returns-5
 returns-5 c t byte =
     let a = c .before .before .before .before .args in
     let q = panelOf t (a .self) (now (a .display)) (now (a .pattern)) in
     let w = firstOf (leb (a .self .busy) (a .time)) (a .rs) (a .«rw») in
-    c .hold2 .ensures _ _ _ ∙ went-as _ _ _ _ _ q Way.Missed w (rw (c .before .before .before .if1 .left, lt-leb _ _ (c .before .if4 .left)))
+    c .miss2 .ensures _ _ _ ∙ went-as _ _ _ _ _ q Way.Missed w (rw (c .before .before .before .if1 .left, lt-leb _ _ (c .before .if4 .left)))
 
 pub first-spec : {M : Type 1} → statement M
 first-spec =
     tie.close
     (tie.spec
+    registers-requires
     here-requires
     offer-requires
     returns
-    hold-requires
+    miss-requires
     returns-2
     status-requires
     offer-requires-2
     returns-3
     wait-requires
     returns-4
-    hold-requires-2
+    miss-requires-2
     returns-5)

@@ -1,4 +1,7 @@
-use mathlib.Core.Path.{_∙_}
+use denote.Ref.{now}
+use mathlib.Core.Path.{ap, _∙_}
+use Rattle.log.specs.Frame.{frameOf}
+use Rattle.mirror.specs.Record.{answered}
 use borrow.Author.Needs.{needs}
 use Rattle.mirror.proofs.panel.Panel.turned.Statement.{statement}
 use Rattle.mirror.proofs.panel.Panel.turned.Tie as tie
@@ -13,7 +16,9 @@ panel-requires : tie.Need-panel-requires
 panel-requires c κs = search needs
 
 returns : tie.Need-returns
-returns c = rw (c .panel .ensures) (c .before .turn .ensures ∙ rw (c .before .before .before .before .of .ensures))
+returns c =
+    let a = c .before .before .before .before .before .before .before .before .before .before .args in
+    rw (c .panel .ensures) (c .before .turn .ensures ∙ ap (λ p. answered (frameOf (now (a .log))) p) (c .before .before .before .before .of .ensures))
 
 pub turned-spec : {M : Type 1} → statement M
 turned-spec = tie.close (tie.spec of-requires turn-requires panel-requires returns)

@@ -12,7 +12,6 @@ use Rattle.mirror.specs.Record.{answered}
 use Rattle.mirror.specs.Run.{consumedOf}
 use Rattle.mirror.specs.Live.{panelOf, totalsOf}
 use Rattle.mirror.specs.PartLaws.{Counting, counting-starts, counting-ends, counting-within, counting-room, counting-goes}
-use Rattle.mirror.specs.declared.live.Live.{Live}
 use Rattle.mirror.specs.declared.panel.Panel.{Panel}
 use Rattle.mirror.proofs.totals.Totals.consume.Statement.{statement}
 use Rattle.mirror.proofs.totals.Totals.consume.Tie as tie
@@ -61,11 +60,7 @@ returns c =
     let a = c .before .before .before .before .before .before .before .before .before .before .before .before .before .before .before .before .before .args in
     rw (c .plus .ensures, c .before .added .ensures, c .before .before .panel2 .ensures)
     (counting-ends (l .inv) _ (c .before .before .before .before .turn .ensures ∙ whole-part _ (l .at) _) (c .before .before .before .if1 .taken) ∙
-    ap
-    (λ (k : Live).
-    consumedOf
-    (totalsOf (a .self .panel .times) k (a .self .panel .sheet .display) (a .self .panel .sheet .pattern) (a .self .counts) (a .self .records))
-    (now (a .log)))
+    ap (λ (p : Panel). consumedOf (record { panel = p; counts = a .self .counts; records = a .self .records }) (now (a .log)))
     (c .before .before .before .before .before .before .before .before .before .of .ensures))
 
 bump-requires : tie.Need-bump-requires Inv-loop μ-loop

@@ -1,0 +1,46 @@
+use Rattle.mirror.specs.declared.half.Half.the-variants.{Empty, Ignored, Waiting}
+use Rattle.mirror.specs.LiveLaws.{opened}
+use borrow.Author.Needs.{needs}
+use Rattle.mirror.proofs.live.Live.of.Statement.{statement}
+use Rattle.mirror.proofs.live.Live.of.Tie as tie
+
+patterned-requires : tie.Need-patterned-requires
+patterned-requires c κs = search needs
+
+place-requires : tie.Need-place-requires
+place-requires c κs = search needs
+
+modes-of-requires : tie.Need-modes-of-requires
+modes-of-requires c κs = search needs
+
+enum-told : tie.Need-enum-told
+enum-told c = search needs
+
+enum-known-half : tie.Need-enum-known-half
+enum-known-half c = search needs
+
+enum-known-half-2 : tie.Need-enum-known-half-2
+enum-known-half-2 c = search needs
+
+returns : tie.Need-returns
+returns c = opened (c .before .before .before .before .before .before .before .before .args .panel) _ _ _ Empty (c .before .before .before .before .before .patterned .ensures) (c .before .before .before .before .place .ensures) (c .before .before .before .modes-of .ensures) (c .before .enum-told .given .1)
+
+returns-2 : tie.Need-returns-2
+returns-2 c = opened (c .before .before .before .before .before .before .before .before .before .args .panel) _ _ _ (Ignored _ _) (c .before .before .before .before .before .before .patterned .ensures) (c .before .before .before .before .before .place .ensures) (c .before .before .before .before .modes-of .ensures) (c .before .before .half .given .1)
+
+returns-3 : tie.Need-returns-3
+returns-3 c = opened (c .before .before .before .before .before .before .before .before .before .args .panel) _ _ _ (Waiting _ _ _) (c .before .before .before .before .before .before .patterned .ensures) (c .before .before .before .before .before .place .ensures) (c .before .before .before .before .modes-of .ensures) (c .before .before .half2 .given .1)
+
+pub of-spec : {M : Type 1} → statement M
+of-spec =
+    tie.close
+    (tie.spec
+    patterned-requires
+    place-requires
+    modes-of-requires
+    enum-told
+    enum-known-half
+    enum-known-half-2
+    returns
+    returns-2
+    returns-3)
