@@ -65,6 +65,7 @@ pub few-ends : (none : Bool) (a b rs : Bool) → endsOf (pick none Empty (Ignore
 few-ends true a b rs = refl
 few-ends false a b rs = refl
 
+-- nothing completes where neither width does
 never : (wr : Bool) → pick wr false false ≡ false
 never true = refl
 never false = refl
@@ -78,6 +79,7 @@ joins false true true free rs wr a b nibble bus c = absurd (false≢true (sym (n
 joins false true false free rs wr a b nibble bus c = absurd (false≢true (sym (never wr) ∙ c))
 joins false false none free rs wr a b nibble bus c = refl
 
+-- what each step comes to is what the transfer comes to
 module _ (time : ℕ) (rs wr : Bool) (bus : ℕ) (p : Panel) where
   abbrev completes : Bool
   completes = completesOf (p .sheet .registers .eight) (p .half) (free time p) rs wr
@@ -110,7 +112,6 @@ module _ (time : ℕ) (rs wr : Bool) (bus : ℕ) (p : Panel) where
   pub ended : (w : ℕ) (a b : Bool) (nibble : ℕ) → completes ≡ false → p .sheet .registers .eight ≡ false → eqb w 0 ≡ false →
       p .half ≡ halfFrom w a b nibble → Comes (unlessTorn a b rs wr (endOf w rs)) byte
   ended w a b nibble c e z h =
-      let half = pick (ltb w 2) (Ignored a b) (Waiting a b nibble) in
       let at = h ∙ waits-some w a b nibble z in
       let same = ap (λ x. completesOf x (p .half) (free time p) rs wr) e ∙ ap (λ x. completesOf false x (free time p) rs wr) at in
       by-way time rs wr bus p byte (unlessTorn a b rs wr (endOf w rs)) refl

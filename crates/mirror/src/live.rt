@@ -94,7 +94,7 @@ impl Live {
         registers(self.patterned, self.place, self.shift, m)
     }
 
-    pub(crate) fn half(self) -> Half
+    fn half(self) -> Half
         ensures { λ r. ⌜ r ≡ halfOf self ⌝ }
     {
         if self.waits < 2 {
