@@ -7,5 +7,5 @@ pub mod panel;
 mod part;
 pub mod record;
 pub mod stream;
-pub mod totals;
+mod totals;
 mod transfer;

@@ -24,7 +24,7 @@ pub struct Consumed {
 }
 
 // One more. A count stays at its greatest number, which no real log reaches.
-pub fn raise(n: u64) -> u64
+pub(crate) fn raise(n: u64) -> u64
     ensures { λ r. ⌜ r ≡ raised n ⌝ }
 {
     if n < u64::MAX { n + 1 } else { n }
@@ -42,7 +42,7 @@ fn tally(counts: &mut [u64; 8], answer: Answer)
 
 impl Totals {
     // Nothing is read yet.
-    pub fn start(panel: Panel) -> Totals
+    pub(crate) fn start(panel: Panel) -> Totals
         ensures { λ r. ⌜ r ≡ started panel ⌝ }
     {
         Totals {
@@ -53,7 +53,7 @@ impl Totals {
     }
 
     // One record more, answered so.
-    pub fn count(self, r: Recorded) -> Totals
+    pub(crate) fn count(self, r: Recorded) -> Totals
         ensures { λ t. ⌜ t ≡ counted self r ⌝ }
     {
         let panel = r.panel;
@@ -68,7 +68,7 @@ impl Totals {
     }
 
     // Every whole record at the front of the log, one after the other.
-    pub fn consume(self, log: &[u8]) -> Consumed
+    pub(crate) fn consume(self, log: &[u8]) -> Consumed
         ensures { λ r. ⌜ r ≡ consumedOf self (now (log .entry)) ⌝ }
     {
         let panel = self.panel;
