@@ -1,8 +1,9 @@
 // What a run has come to, and the loop over the records of a log.
 ghost use mathlib.Core.Path.{_≡_};
 ghost use lib.ListN.{replicate};
-ghost use Rattle.mirror.specs.Run.{raised, tallied, started, counted, consumedOf};
+ghost use Rattle.mirror.specs.Run.{tallied, started, counted, consumedOf};
 use crate::answer::Answer;
+use crate::count::raise;
 use crate::live::Live;
 use crate::panel::Panel;
 use crate::part::added;
@@ -21,13 +22,6 @@ pub struct Totals {
 pub struct Consumed {
     pub totals: Totals,
     pub at: usize,
-}
-
-// One more. A count stays at its greatest number, which no real log reaches.
-pub(crate) fn raise(n: u64) -> u64
-    ensures { λ r. ⌜ r ≡ raised n ⌝ }
-{
-    if n < u64::MAX { n + 1 } else { n }
 }
 
 // The count of an answer, raised.
