@@ -26,6 +26,7 @@ pub mod TableCase
 pub mod RecordKeeps
 pub mod HalfLaws
 pub mod SoundLaws
+pub mod TypedLaws
 pub mod Busy
 pub mod BusyLaws
 pub mod BusyCases

@@ -4,7 +4,7 @@ use mathlib.Core.Path.{_≡_, refl, sym, ap, _∙_}
 use mathlib.Core.Bool.{Bool, true, false}
 use mathlib.Core.List.{List}
 use native.Mathlib.Omega.{arith}
-use lib.ListN.{length, getD, drop, length-drop}
+use lib.ListN.{length, drop, length-drop}
 use lib.Seq.{getD-drop}
 use lib.Dec.{eqb}
 use borrow.Author.Tests.{eqb-true, eqb-false}
@@ -14,6 +14,7 @@ use Rattle.log.specs.Frames.{frames, tail}
 use Rattle.mirror.specs.Record.{answered}
 use Rattle.mirror.specs.Table.{recordOf}
 use Rattle.mirror.specs.TableLaws.{answered-sound}
+use Rattle.mirror.specs.Answers.{Bytes}
 use Rattle.mirror.specs.SoundParts.{whole}
 use Rattle.mirror.specs.SoundLaws.{Lasts, record-lasts}
 use Rattle.mirror.specs.Run.{counted, onward}
@@ -40,10 +41,6 @@ callsOf (suc n) t s =
 some : (n : ℕ) → (n ≡ 0 → ⊥) → 0 < n
 some zero z = absurd (z refl)
 some (suc n) z = omega arith
-
--- a log is made of bytes
-abbrev pub Bytes : List ℕ → Type 0
-Bytes s = (i : ℕ) → getD s i 0 < 256
 
 module _ (t : Totals) (s : List ℕ) (l : Lasts (t .panel)) where
   abbrev r : Recorded
