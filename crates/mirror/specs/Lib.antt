@@ -31,3 +31,4 @@ pub mod Busy
 pub mod BusyLaws
 pub mod BusyCases
 pub mod RunRecords
+pub mod AskedLaws
