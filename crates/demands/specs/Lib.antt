@@ -1,6 +1,9 @@
 pub mod Mirrors
 pub mod Answers
+pub mod EngineLaws
 pub mod AnswersLaws
+pub mod Chain
+pub mod ChainLaws
 pub mod Replay
 pub mod Ways
 pub mod ReplayLaws
