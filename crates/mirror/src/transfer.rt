@@ -224,7 +224,7 @@ impl Live {
 
 impl Panel {
     // One record, of a panel that is known to be sound: taken apart, one turn, and put together.
-    pub fn turned(self, log: &[u8]) -> Recorded
+    pub(crate) fn turned(self, log: &[u8]) -> Recorded
         ensures { λ r. ⌜ r ≡ answered (frameOf (now (log .entry))) self ⌝ }
     {
         let times = self.times;
