@@ -1,6 +1,7 @@
 -- ONE CHAIN FROM THEOREM TO FUNCTION: the answers that the theorems speak of are those that the code gives, whichever way it is called.
 use Prim.Native.Nat.{ℕ, zero, suc}
 use mathlib.Core.Path.{_≡_}
+use mathlib.Core.Bool.{true}
 use mathlib.Core.List.{List, [], _∷_, _++_}
 use lib.ListN.{length, take, drop, replicate}
 use lib.Dec.{eqb}
@@ -51,6 +52,8 @@ pub data Asked (p : Panel) : List ℕ → List Reply → Stream → Type 0 where
   started : Asked p [] [] (startOf p)
   asked : {log : List ℕ} {replies : List Reply} {st : Stream} → Asked p log replies st → (part : List ℕ) →
       Asked p (log ++ take (nextOf st part .taken) part) (replies ++ tells (nextOf st part .reply)) (nextOf st part .stream)
+  -- what comes after a cut is not taken any more
+  ended : {log : List ℕ} {replies : List Reply} {st : Stream} → Asked p log replies st → st .over ≡ true → (rest : List ℕ) → Asked p (log ++ rest) replies st
 
 -- BY `feed`, part after part, and `end`
 abbrev pub fedAll : Stream → List (List ℕ) → Stream

@@ -29,7 +29,7 @@ use Rattle.mirror.specs.RunLaws.{answered-used, cut-used, uncut-used}
 use Rattle.mirror.specs.Stream.{startAs, startOf, panelIn, waitingBytes, restedOf, feedOf, nextOf, endOf, runOf}
 use Rattle.mirror.specs.StreamLaws.{fed, feed-append, feed-run}
 use Rattle.mirror.specs.NextLaws.{next-over}
-use Rattle.mirror.specs.AskedLaws.{one-record, taken-part, at-rest, accepted, stands-at, frames-more, stream-more, cut-next, whole-next}
+use Rattle.mirror.specs.AskedLaws.{one-record, taken-part, accepted, stands-at, frames-over, stream-over, frames-more, stream-more, cut-next, whole-next}
 use Rattle.mirror.specs.declared.panel.Panel.{Panel}
 use Rattle.mirror.specs.declared.record.Recorded.{Recorded}
 use Rattle.mirror.specs.declared.stream.Stream.{Stream}
@@ -42,7 +42,7 @@ use Rattle.demands.specs.Answers.{answersBy, panelBy}
 use Rattle.demands.specs.EngineLaws.{engine, same-answers, same-panel}
 use Rattle.demands.specs.AnswersLaws.{onward-panel, of-run}
 use Rattle.demands.specs.Chain.{told, callsOf, leftOf, tells, Asked, fedAll, Chain, OneChain}
-use Rattle.demands.specs.Chain.Asked.{started as begun, asked}
+use Rattle.demands.specs.Chain.Asked.{started as begun, asked, ended}
 
 -- BY `record`. What it comes to on a log is what the engine makes of the log's first record
 module _ (p : Panel) (s : List ℕ) (l : Lasts p) where
@@ -215,6 +215,12 @@ module _ (p : Panel) where
   told-all : soundPanel p ≡ true → {log : List ℕ} {replies : List Reply} {st : Stream} → Asked p log replies st → Told p log replies st
   told-all e begun = subst (λ b. Told p [] [] (startAs b p)) (sym e) told-start
   told-all e (asked {log} {replies} {st} before part) = one-more log replies st (told-all e before) part
+  told-all e (ended {log} {replies} {st} before over rest) =
+      let h = told-all e before in
+      record {
+        stream = stream-over p log st (h .stream) over rest;
+        replies-are = h .replies-are ∙ ap (λ fs. told (run (machineOf engine) p fs)) (sym (frames-over p log st (h .stream) over rest));
+      }
 
 -- BY `feed`: parts one after another are their bytes together
 fed-parts : (parts : List (List ℕ)) (st : Stream) (log : List ℕ) → fedAll (feedOf st log) parts ≡ feedOf st (log ++ joined parts)

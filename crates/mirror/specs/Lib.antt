@@ -30,5 +30,4 @@ pub mod TypedLaws
 pub mod Busy
 pub mod BusyLaws
 pub mod BusyCases
-pub mod RunRecords
 pub mod AskedLaws
