@@ -16,7 +16,7 @@ use Rattle.laws.specs.Ring.{moved-below}
 use Rattle.chip.specs.Address.{displaySize, patternSize, display, pattern, movedAddress}
 use Rattle.chip.specs.Sheet.{freshSheet}
 use Rattle.chip.specs.Instruction.{bit, decoded}
-use Rattle.chip.specs.Step.{homed, cleared, entered, lit, stepped, shifted, functionSet, addressSet, acted, obeyed, storedAt, followedAt, written, passed}
+use Rattle.chip.specs.Step.{homed, cleared, entered, lit, stepped, shifted, functionSet, addressSet, acted, obeyed, storedAt, movedOn, shiftsAt, written, passed}
 use Rattle.chip.specs.Sound.{addressFits, patternFits, soundSheet}
 use Rattle.chip.specs.declared.address.Address.{Address}
 use Rattle.chip.specs.declared.address.Address.the-variants.{Display, Pattern}
@@ -144,21 +144,16 @@ stored-sound (Pattern p) byte s h =
       entries = set-fits (s .pattern) (p .0 % patternSize) (byte % 32) (mod-lt byte (omega arith)) (h .entries);
     }
 
-followed-sound : (a : Address) (s : Sheet) → Sound s → Sound (followedAt a s)
-followed-sound (Display d) s h = by (s .registers .follow)
-  where
-    by : (b : Bool) → Sound (pick b (shifted (s .registers .up) s) s)
-    by true = shifted-sound (s .registers .up) s h
-    by false = h
-followed-sound (Pattern p) s h = h
+movedOn-sound : (shifts : Bool) (s : Sheet) → Sound s → Sound (movedOn shifts s)
+movedOn-sound true s h = let up = s .registers .up in shifted-sound up (stepped up s) (stepped-sound up s h)
+movedOn-sound false s h = stepped-sound (s .registers .up) s h
 
 -- so does a data write
 pub written-sound : (byte : ℕ) (s : Sheet) → Sound s → Sound (written byte s)
 written-sound byte s h =
     let a = s .registers .address in
-    followed-sound a (stepped (s .registers .up) (storedAt a byte s))
-    (stepped-sound (s .registers .up) (storedAt a byte s) (stored-sound a byte s h))
+    movedOn-sound (shiftsAt a (s .registers .follow)) (storedAt a byte s) (stored-sound a byte s h)
 
 -- and a data read
 pub passed-sound : (s : Sheet) → Sound s → Sound (passed s)
-passed-sound s h = stepped-sound (s .registers .up) s h
+passed-sound s h = movedOn-sound false s h
