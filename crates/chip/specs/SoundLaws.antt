@@ -15,7 +15,7 @@ use Rattle.laws.specs.PickLaws.{past}
 use Rattle.laws.specs.Ring.{moved-below}
 use Rattle.chip.specs.Address.{displaySize, patternSize, display, pattern, movedAddress}
 use Rattle.chip.specs.Sheet.{freshSheet}
-use Rattle.chip.specs.Instruction.{bit, decoded}
+use Rattle.chip.specs.Instruction.{bit, unset, decoded}
 use Rattle.chip.specs.Step.{homed, cleared, entered, lit, stepped, shifted, functionSet, addressSet, acted, obeyed, storedAt, movedOn, shiftsAt, written, passed}
 use Rattle.chip.specs.Sound.{addressFits, patternFits, soundSheet}
 use Rattle.chip.specs.declared.address.Address.{Address}
@@ -117,7 +117,7 @@ decoded-fits code =
     (by (ltb code 0x08) (plain (Entry (bit 2 code) (bit 1 code)) (entered-sound (bit 2 code) (bit 1 code)))
     (by (ltb code 0x10) (plain (Screen (bit 4 code) (bit 2 code) (bit 1 code)) (lit-sound (bit 4 code) (bit 2 code) (bit 1 code)))
     (by (ltb code 0x18) (plain (Move (bit 4 code)) (stepped-sound (bit 4 code)))
-    (by (ltb code 0x20) (plain (Shift (not (bit 4 code))) (shifted-sound (not (bit 4 code))))
+    (by (ltb code 0x20) (plain (Shift (unset 4 code)) (shifted-sound (unset 4 code)))
     (by (ltb code 0x40) (plain (Function (bit 16 code) (code % 16)) (λ s h. functionSet-sound (bit 16 code) (code % 16) s (mod-lt code (omega arith)) h))
     (by (ltb code 0x80)
     (plain (Set (Pattern (pattern (code % 32)))) (λ s h. addressSet-sound (Pattern (pattern (code % 32))) s (lt-ltb _ patternSize (mod-lt code (omega arith))) h))
