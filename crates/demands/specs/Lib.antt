@@ -10,6 +10,8 @@ pub mod StrikingLaws
 pub mod Logs
 pub mod Naive
 pub mod Cases
+pub mod RowCases
+pub mod StepCases
 pub mod Rules
 pub mod RulesLaws
 pub mod CountsLaws
