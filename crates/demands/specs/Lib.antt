@@ -12,6 +12,8 @@ pub mod Naive
 pub mod Cases
 pub mod RowCases
 pub mod StepCases
+pub mod HalfCases
+pub mod AnswerCases
 pub mod Rules
 pub mod RulesLaws
 pub mod CountsLaws

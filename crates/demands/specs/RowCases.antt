@@ -1,10 +1,11 @@
 -- What the tables of computed rows say, and the panels that they start from: panels that are nowhere fresh. Every row is worked out from document 01 and
 -- none from a definition, so that a definition that misreads the paper makes a row fail.
-use Prim.Native.Nat.{ℕ, zero, suc, _+_, _*_, _/_, _%_}
+use Prim.Native.Nat.{ℕ, zero, suc}
 use lib.Dec.{eqb}
 use mathlib.Core.Path.{_≡_}
-use mathlib.Core.Bool.{Bool, true, false}
+use mathlib.Core.Bool.{Bool}
 use mathlib.Core.List.{List, [], _∷_, map}
+use lib.ListN.{replicate}
 use Rattle.chip.specs.Address.{display, pattern}
 use Rattle.chip.specs.declared.address.Address.{Address}
 use Rattle.chip.specs.declared.address.Address.the-variants.{Display, Pattern}
@@ -70,6 +71,13 @@ regs address shift up follow on cursor blink width function =
       function = function;
     }
 
+-- two settings in which every bit differs, at a width
+abbrev pub down : ℕ → Registers
+down width = regs (shows 9) 6 0 1 1 0 1 width 5
+
+abbrev pub up : ℕ → Registers
+up width = regs (draws 22) 11 1 0 0 1 0 width 10
+
 -- display memory and pattern memory with every place different
 abbrev pub codes : List ℕ
 codes = 0xf0 ∷ 0xe1 ∷ 0xd2 ∷ 0xc3 ∷ 0xb4 ∷ 0xa5 ∷ 0x96 ∷ 0x87 ∷ 0x78 ∷ 0x69 ∷ 0x5a ∷ 0x4b ∷ 0x3c ∷ 0x2d ∷ 0x1e ∷ 0x0f ∷ []
@@ -106,3 +114,10 @@ held rs rw nibble = Waiting (bit rs) (bit rw) nibble
 
 abbrev pub missed : ℕ → ℕ → Half
 missed rs rw = Ignored (bit rs) (bit rw)
+
+-- the fresh registers and memories
+abbrev pub blank : List ℕ
+blank = replicate 16 0x20
+
+abbrev pub afresh : ℕ → ℕ → Panel
+afresh busy last = panelWith (regs (shows 0) 0 1 0 0 0 0 8 0) blank (replicate 32 0) busy Empty last

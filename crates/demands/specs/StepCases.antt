@@ -1,22 +1,15 @@
 -- THE TABLE OF STEPS (document 01, "Steps"): each from panels that are nowhere fresh, at the time 1,000, free since 900.
+-- In `regs`: address; shift; I/D, S; D, C, B; width; Function Set bits.
 use Prim.Native.Nat.{ℕ, _+_, _*_, _/_, _%_}
 use mathlib.Core.Path.{refl}
 use mathlib.Core.List.{List, [], _∷_, _++_, map}
-use lib.ListN.{replicate}
 use Rattle.chip.specs.declared.address.Address.{Address}
 use Rattle.chip.specs.declared.registers.Registers.{Registers}
 use Rattle.mirror.specs.Panel.{freshPanel}
 use Rattle.mirror.specs.declared.half.Half.the-variants.{Empty}
 use Rattle.mirror.specs.declared.panel.Panel.{Panel}
 use Rattle.demands.specs.Logs.{instructAt, writeAt, transferAt, resetAt}
-use Rattle.demands.specs.RowCases.{Hold, Row, row, answered, recording, shows, draws, regs, codes, dots, with, panelWith, panel, held, missed}
-
--- two settings in which every bit differs, at a width; in regs: address; shift; I/D, S; D, C, B; width; Function Set bits
-abbrev down : ℕ → Registers
-down width = regs (shows 9) 6 0 1 1 0 1 width 5
-
-abbrev up : ℕ → Registers
-up width = regs (draws 22) 11 1 0 0 1 0 width 10
+use Rattle.demands.specs.RowCases.{Hold, Row, row, answered, recording, shows, draws, regs, down, up, codes, dots, with, panelWith, panel, held, missed, blank, afresh}
 
 -- the busy end after 1,000 with the short time, 71, and with the long time, 2,003
 abbrev short : ℕ
@@ -35,9 +28,6 @@ paired before code after busy =
     row (panel before 900 (held 0 0 (code / 16)) 800) (instructAt 1_000 (code % 16 * 16 + 11)) 0 0 14 (panel after busy Empty 1_000)
 
 -- Clear: 20h everywhere in display memory, display address 0, shift 0, I/D = 1; S stays, and all else
-abbrev blank : List ℕ
-blank = replicate 16 0x20
-
 abbrev clears : List Row
 clears =
     row (panel (down 8) 900 Empty 800) (instructAt 1_000 0x01) 0 0 14 (panelWith (regs (shows 0) 0 1 1 1 0 1 8 5) blank dots long Empty 1_000)
@@ -189,10 +179,7 @@ dataReads =
     ∷ reads (place (draws 8) 6 1 0) 31 (place (draws 9) 6 1 0)
     ∷ []
 
--- a reset gives a fresh panel, but for the last time, the busy end, which is the time and the reset time, 30,011, and the three times, which stay
-abbrev afresh : ℕ → ℕ → Panel
-afresh busy last = panelWith (regs (shows 0) 0 1 0 0 0 0 8 0) blank (replicate 32 0) busy Empty last
-
+-- a reset gives a fresh panel, but for the last time, the busy end, which is the time and the reset time, 30,011, and the three times, which stay:
 -- free; while busy, with a half that waits or that was ignored; at the last time
 abbrev resets : List Row
 resets =
