@@ -58,7 +58,7 @@ cuts =
     ∷ stays (framed 65 1 (replicate 63 0)) 8 0
     ∷ stays (framed 65 1 (replicate 90 0)) 8 0
     ∷ stays (framed 66 1 (replicate 90 0)) 8 0
-    -- both bytes of the length count: 268 is not 12, and 256 is not 0 of a kind
+    -- both bytes of the length count, the lower one first: 268 is not 12
     ∷ stays (12 ∷ 1 ∷ 1 ∷ 0 ∷ transfer) 8 0
     ∷ stays (12 ∷ 1 ∷ 1 ∷ 0 ∷ transfer ++ replicate 300 0) 8 0
     ∷ stays (0 ∷ 12 ∷ 1 ∷ 0 ∷ transfer) 8 0
@@ -197,6 +197,6 @@ orders =
     ∷ row ignored (instructAt 1_000 0x00) 3 0 14 (panel (down 4) 5_000 Empty 1_000)
     ∷ []
 
-answers-computed : Hold answered (taken ++ cuts ++ bads ++ controls ++ times ++ backs ++ orders)
+pub answers-computed : Hold answered (taken ++ cuts ++ bads ++ controls ++ times ++ backs ++ orders)
 unfolding recording
 answers-computed = refl

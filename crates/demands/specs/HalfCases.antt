@@ -92,6 +92,6 @@ torn =
     -- 00h tears too
     ++ (keeps (down 4) 900 (held 0 1 6) (instructAt 1_000 0x00) 4 0 Empty ∷ [])
 
-halves-computed : Hold answered (wholes ++ firsts ++ seconds ++ torn)
+pub halves-computed : Hold answered (wholes ++ firsts ++ seconds ++ torn)
 unfolding recording
 halves-computed = refl

@@ -14,6 +14,9 @@ pub mod RowCases
 pub mod StepCases
 pub mod HalfCases
 pub mod AnswerCases
+pub mod RunCases
+pub mod SoundCases
+pub mod GlassCases
 pub mod Rules
 pub mod RulesLaws
 pub mod CountsLaws

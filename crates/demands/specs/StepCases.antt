@@ -189,11 +189,11 @@ resets =
     ∷ row (panel (up 4) 5_000 (missed 1 0) 800) (resetAt 800) 0 0 12 (afresh 30_811 800)
     ∷ []
 
-instructions-computed : Hold answered (clears ++ homes ++ settings ++ addresses ++ moves ++ turns)
+pub instructions-computed : Hold answered (clears ++ homes ++ settings ++ addresses ++ moves ++ turns)
 unfolding recording
 instructions-computed = refl
 
-transfers-computed : Hold answered (displayWrites ++ patternWrites ++ dataReads ++ resets)
+pub transfers-computed : Hold answered (displayWrites ++ patternWrites ++ dataReads ++ resets)
 unfolding recording
 transfers-computed = refl
 
@@ -201,5 +201,5 @@ transfers-computed = refl
 abbrev made : ℕ × ℕ × ℕ → Panel
 made times = freshPanel (times .0) (times .1) (times .2)
 
-fresh-computed : Hold made (((30_011, 2_003, 71), afresh 0 0) ∷ [])
+pub fresh-computed : Hold made (((30_011, 2_003, 71), afresh 0 0) ∷ [])
 fresh-computed = refl
