@@ -39,9 +39,9 @@ font = glyphs 1_920 0
 abbrev edges : List ℕ
 edges = 0x10 ∷ 0xff ∷ 0x0f ∷ 0x0a ∷ 0x05 ∷ 0x00 ∷ 0x41 ∷ 0x11 ∷ 0xfe ∷ 0x80 ∷ 0x7f ∷ 0x20 ∷ 0x0d ∷ 0x02 ∷ 0x1f ∷ 0x0e ∷ []
 
--- address, shift, D, C, B
+-- address, shift, D, C, B; the Function Set bits are all set, and show nothing
 abbrev glass : Address → ℕ → ℕ → ℕ → ℕ → Panel
-glass address shift d c b = panelWith (regs address shift 0 1 d c b 8 5) edges dots 900 Empty 800
+glass address shift d c b = panelWith (regs address shift 0 1 d c b 8 15) edges dots 900 Empty 800
 
 -- a painting: panel, font, whether the blink is dark, frame lent; what is answered, and the frame afterwards
 abbrev Painting : Type 0

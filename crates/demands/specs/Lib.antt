@@ -17,6 +17,7 @@ pub mod AnswerCases
 pub mod RunCases
 pub mod SoundCases
 pub mod GlassCases
+pub mod StrikeCases
 pub mod Rules
 pub mod RulesLaws
 pub mod CountsLaws
