@@ -7,7 +7,7 @@ use crate::log;
 use crate::panel::{self, Panel, Run, Times};
 use crate::picture::{self, Painting};
 use crate::prints;
-use crate::report;
+use crate::report::page;
 
 pub struct Case {
     pub name: &'static str,
@@ -117,9 +117,9 @@ fn reports() -> Vec<Case> {
         (1_741, DATA, 0x57), (1_700, STATUS, 0),
     ]);
     vec![
-        case("the report's example", example, |_, _, log| report::print(log) == REPORT_EXAMPLE),
+        case("the report's example", example, |_, _, log| page::print(log) == REPORT_EXAMPLE),
         case("the sample night", NIGHT.to_vec(), |_, _, log| {
-            let print = report::print(log);
+            let print = page::print(log);
             let answers: Vec<_> = print.lines().filter_map(|line| line.split('\t').nth(4)).collect();
             let counted = ["ignored", "torn", "back", "bad", "none"]
                 .map(|answer| answers.iter().filter(|&&other| other == answer).count());
@@ -142,7 +142,7 @@ fn pictures_and_prints() -> Vec<Case> {
         }),
         case("four records, glazomir", four.clone(), |_, _, log| prints::glazomir(log) == FOUR_GLAZOMIR),
         case("four records, trace", four, |_, _, log| {
-            let lent = arguments::read(&[]).expect("no words");
+            let lent = arguments::trace(&[]).expect("no words");
             prints::trace(&lent, log) == four_trace()
         }),
     ]
@@ -215,6 +215,7 @@ const FOUR_TRACE: &str = "\
 2 01
 records 4
 cut 0
+counts 2 0 1 1 0 0 0 0
 sound 1
 display 57 20 20 20 20 20 20 20 20 20 20 20 20 20 20 20
 pattern 00 00 00 00 00 00 00 00 00 00 00 00 00 00 00 00 00 00 00 00 00 00 00 00 00 00 00 00 00 00 00 00
