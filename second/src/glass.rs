@@ -55,17 +55,18 @@ pub fn shifts(seed: u64) -> Vec<Trial> {
     (0..16).map(shown).collect()
 }
 
-/// A log of more than two blocks, with a time that falls into the second or a
-/// later one. Its first record is bad and of another length each time, so that
+/// A log of more than two blocks, with a time that falls into the second or,
+/// for odd numbers, into a later one. Its first record is bad and of another length each time, so that
 /// a block ends anywhere in a record.
 pub fn long_trial(seed: u64, number: u64) -> Trial {
     let mut random = random_of(!seed, number);
     let mut log = log::write_record(9, &random.bytes(number as usize % 14));
     let scene = scene(&mut random, number);
     log.extend(sender::send_glass(&mut random, 5_500, scene));
+    let blocks = if number % 2 == 0 { 1..2 } else { 2..usize::MAX };
     let later: Vec<u64> = moments(&log)
         .iter()
-        .filter(|moment| moment.has_a_say && moment.offset >= BLOCK * (1 + number as usize % 2))
+        .filter(|moment| moment.has_a_say && blocks.contains(&(moment.offset / BLOCK)))
         .filter_map(|moment| moment.time)
         .collect();
     let time = random.pick(&later);

@@ -140,6 +140,9 @@ fn reads_are_fixed_at_the_first_half() {
     assert_eq!(send(&mut panel, 99, STATUS_READ, 0), (HELD, 0x80));
     assert_eq!(send(&mut panel, 200, STATUS_READ, 0), (STATUS, 0x10));
     assert_eq!((panel.busy_end, panel.last, panel.half), (100, 200, None));
+    // A half that is handed in waits with what was fixed then.
+    panel.half = Some(Half { rs: false, rw: true, nibble: Some(9) });
+    assert_eq!(send(&mut panel, 200, STATUS_READ, 0), (STATUS, 0x90));
 }
 
 #[test]
