@@ -1,13 +1,14 @@
-//! The rules' own cases A to M, the report's example and the sample night, and
-//! the four-record example.
+//! The rules' own cases A to M, the examples of the report and of the wall, the
+//! sample night, and the four-record example.
 
 use crate::arguments;
 use crate::chip::{Counter, DisplayAddress, PatternAddress, Sheet};
 use crate::log;
 use crate::panel::{self, Panel, Run, Times};
-use crate::picture::{self, Painting};
+use crate::picture::{self, Painting, FONT_SIZE};
 use crate::prints;
 use crate::report::page;
+use crate::wall::{self, Asked, Form};
 
 pub struct Case {
     pub name: &'static str,
@@ -140,6 +141,10 @@ fn pictures_and_prints() -> Vec<Case> {
         case("M", Vec::new(), |panel, run, _| {
             run.counts == [0; 8] && !run.cut && *panel == Panel::fresh(Times::USUAL)
         }),
+        case("the wall's example", at_times(&[(0, INSTRUCTION, 0x0E), (40, DATA, 0x57)]), |_, _, log| {
+            let asked = Asked { form: Form::Ascii, dark: false, at: None, font: None };
+            wall::print(&asked, &wall_font(), log) == WALL_EXAMPLE.as_bytes()
+        }),
         case("four records, glazomir", four.clone(), |_, _, log| prints::glazomir(log) == FOUR_GLAZOMIR),
         case("four records, trace", four, |_, _, log| {
             let lent = arguments::trace(&[]).expect("no words");
@@ -153,6 +158,29 @@ fn painted(panel: &Panel) -> (Painting, Vec<u8>) {
     let painting = picture::paint(panel, &picture::trial_font(), false, &mut frame);
     (painting, frame)
 }
+
+/// The font of the wall's example: blank but for the rows of 57h.
+pub fn wall_font() -> Vec<u8> {
+    let mut font = vec![0; FONT_SIZE];
+    font[8 * (0x57 - 16)..][..8].copy_from_slice(&[0x11, 0x11, 0x11, 0x15, 0x15, 0x1B, 0x11, 0x00]);
+    font
+}
+
+const WALL_EXAMPLE: &str = "\
++--------------------------------------------------------------------------------+
+|#...#...........................................................................|
+|#...#...........................................................................|
+|#...#...........................................................................|
+|#.#.#...........................................................................|
+|#.#.#...........................................................................|
+|##.##...........................................................................|
+|#...#...........................................................................|
+|.....#####......................................................................|
++--------------------------------------------------------------------------------+
+text |W               |
+codes 57 20 20 20 20 20 20 20 20 20 20 20 20 20 20 20
+cursor 1
+";
 
 const REPORT_EXAMPLE: &str = "\
 record	second	time	clock	answer	what	byte	meaning

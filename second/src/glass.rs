@@ -1,6 +1,7 @@
 //! Trials for `wall`: a log that sets the glass on purpose, a font of random
 //! bytes, so that a turned or mirrored glyph shows, and often a time to look at.
 
+use crate::cases;
 use crate::generator::{self, Trial};
 use crate::lend::{files, text, Group, Word};
 use crate::log::{self, TIME_LIMIT};
@@ -82,14 +83,12 @@ pub fn whole_log(seed: u64, log: Vec<u8>) -> Trial {
 /// The example of docs/WALL.md with its font, and logs of hardly anything.
 pub fn example_and_edges() -> Vec<Trial> {
     let log = [log::write_transfer(0, 0, 0x0E), log::write_transfer(40, 1, 0x57)].concat();
-    let mut font = vec![0; FONT_SIZE];
-    font[8 * (0x57 - 16)..][..8].copy_from_slice(&[0x11, 0x11, 0x11, 0x15, 0x15, 0x1B, 0x11, 0x00]);
     let cut = [log.clone(), vec![12, 0, 1]].concat();
     let logs = [log.clone(), cut, Vec::new(), vec![12], log[..14].to_vec()];
     let mut trials = Vec::new();
     for log in logs {
         for words in ["ascii", "pbm dark", "ascii at 0", "at 39 ascii", "at 40 pbm", "ascii at 281474976710656"] {
-            let groups = vec![text(words), files("font", vec![font.clone()])];
+            let groups = vec![text(words), files("font", vec![cases::wall_font()])];
             trials.push(Trial { groups, log: log.clone() });
         }
     }

@@ -178,9 +178,8 @@ mod tests {
 
     #[test]
     fn cursor_and_blink() {
-        let under: Vec<String> = [".....", ".....", ".....", ".....", ".....", ".....", ".....", "#####"].map(str::to_string).into();
-        let full: Vec<String> = vec!["#####".to_string(); 8];
-        let none: Vec<String> = vec![".....".to_string(); 8];
+        let [full, none] = ["#####", "....."].map(|row| vec![row.to_string(); 8]);
+        let under = [&none[..7], &full[..1]].concat();
         for (c, b, dark, expected) in [
             (true, false, false, &under), (true, false, true, &under), (false, true, false, &none),
             (false, true, true, &full), (true, true, false, &under), (true, true, true, &full), (false, false, true, &none),

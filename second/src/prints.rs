@@ -191,7 +191,9 @@ mod tests {
         ]
         .concat();
         let print = trace(&usual(), &log);
-        for line in ["counter pattern 1E", "width 4 function B", "half 1 0 0 D", "busy 81 last 81", "counts 2 2 0 0 0 0 0 0"] {
+        for line in
+            ["counter pattern 1E", "width 4 function B", "half 1 0 0 D", "busy 81 last 81", "counts 2 2 0 0 0 0 0 0"]
+        {
             assert!(print.contains(&format!("\n{line}\n")), "{line}");
         }
         assert!(glazomir(&log).contains("\npattern 1E\ncodes 20 20"));

@@ -100,11 +100,12 @@ fn in_pieces(seed: u64) -> Vec<Question> {
     for turn in 0..8 {
         let mut log = generator::trial(seed, turn * 12).log;
         log.truncate(2_000);
-        for (size, of_trace) in [(1, by_records(log.clone())), (3, plain(Which::Trace, log.clone())), (7, by_records(log.clone()))] {
-            questions.push(Question { feed: Feed::Pieces(size), ..of_trace });
+        for (size, question) in [
+            (1, by_records(log.clone())), (3, plain(Which::Trace, log.clone())), (7, by_records(log.clone())),
+            (1 + turn as usize, plain(Which::Glazomir, log)),
+        ] {
+            questions.push(Question { feed: Feed::Pieces(size), ..question });
         }
-        let feed = Feed::Pieces(1 + turn as usize);
-        questions.push(Question { feed, ..plain(Which::Glazomir, log) });
     }
     for size in [1, 3, 7, 13] {
         let mut log = generator::night(seed, size as u64);
