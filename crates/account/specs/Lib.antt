@@ -6,6 +6,7 @@ pub mod AgainLaws
 pub mod AgainCases
 pub mod Columns
 pub mod Entry
+pub mod EntryLaws
 pub mod Account
 pub mod AccountLaws
 pub mod DataWrites
