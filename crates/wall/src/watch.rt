@@ -77,7 +77,7 @@ fn watch_part(stream: Stream, until: u64, part: &[u8]) -> Seen {
 }
 
 // The whole of standard input, or as much as there is up to the time.
-pub fn watch_all(start: Stream, until: u64, block: &mut [u8]) -> Seen {
+pub(crate) fn watch_all(start: Stream, until: u64, block: &mut [u8]) -> Seen {
     let mut seen = Seen {
         stream: start,
         more: true,
