@@ -11,8 +11,9 @@ use Rattle.log.specs.FrontLaws.{uncut-front}
 use Rattle.log.specs.FrameLaws.{frame-take, size-whole}
 use Rattle.log.specs.FramesLaws.{frames-next}
 use Rattle.mirror.specs.Panel.{soundPanel}
-use Rattle.mirror.specs.Record.{answered, recordOf}
-use Rattle.mirror.specs.RecordLaws.{answered-sound}
+use Rattle.mirror.specs.Record.{answered}
+use Rattle.mirror.specs.Table.{recordOf}
+use Rattle.mirror.specs.TableLaws.{answered-sound}
 use Rattle.mirror.specs.Run.{started, advanced, onward}
 use Rattle.mirror.specs.RunLaws.{answered-used}
 use Rattle.mirror.specs.Stream.{runAs, runOf}

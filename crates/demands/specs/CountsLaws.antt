@@ -17,8 +17,9 @@ use Rattle.log.specs.FramesLaws.{AllRecords, frames-are-records}
 use Rattle.log.specs.declared.frame.Frame.{Frame}
 use Rattle.log.specs.declared.frame.Frame.the-variants as frame
 use Rattle.mirror.specs.Answer.{numberOf}
-use Rattle.mirror.specs.Way.{Way, joinedOf, wayOf}
-use Rattle.mirror.specs.Record.{free, went, transferred, answered}
+use Rattle.mirror.specs.Way.{Way, wayOf}
+use Rattle.mirror.specs.Words.{joinedOf, free}
+use Rattle.mirror.specs.Record.{went, transferred, answered}
 use Rattle.mirror.specs.Run.{mostCount, capped, raised, tallied}
 use Rattle.mirror.specs.Stream.{runOf}
 use Rattle.mirror.specs.StreamLaws.{raised-capped}

@@ -12,8 +12,9 @@ use Rattle.log.specs.declared.frame.Frame.{Frame}
 use Rattle.log.specs.declared.frame.Frame.the-variants as frame
 use Rattle.chip.specs.Sheet.{freshSheet}
 use Rattle.chip.specs.declared.sheet.Sheet.{Sheet}
-use Rattle.mirror.specs.Way.{Way, joinedOf, wayOf}
-use Rattle.mirror.specs.Record.{recorded, free, holding, done, went, transferred, answered}
+use Rattle.mirror.specs.Way.{Way, wayOf}
+use Rattle.mirror.specs.Words.{joinedOf, free, holding, done}
+use Rattle.mirror.specs.Record.{recorded, went, transferred, answered}
 use Rattle.mirror.specs.declared.answer.Answer.{Answer}
 use Rattle.mirror.specs.declared.answer.Answer.the-variants as say
 use Rattle.mirror.specs.declared.half.Half.{Half}

@@ -3,7 +3,8 @@ use Prim.Native.Nat.{ℕ}
 use mathlib.Core.Path.{_≡_}
 use mathlib.Core.List.{List}
 use Rattle.log.specs.Frame.{frameOf}
-use Rattle.mirror.specs.Record.{holding, answered}
+use Rattle.mirror.specs.Record.{answered}
+use Rattle.mirror.specs.Words.{holding}
 use Rattle.mirror.specs.declared.answer.Answer.{Answer}
 use Rattle.mirror.specs.declared.answer.Answer.the-variants.{Taken, Held, Status, Ignored, Torn, Back, Bad, Nothing, Cut, Unsound}
 use Rattle.mirror.specs.declared.half.Half.the-variants.{Empty}

@@ -11,7 +11,7 @@ use Rattle.chip.specs.Sheet.{freshSheet}
 use Rattle.chip.specs.Sound.{patternFits}
 use Rattle.chip.specs.declared.sheet.Sheet.{Sheet}
 use Rattle.mirror.specs.Panel.{freshPanel}
-use Rattle.mirror.specs.Way.{joinedOf}
+use Rattle.mirror.specs.Words.{joinedOf}
 use Rattle.mirror.specs.Record.{answered}
 use Rattle.mirror.specs.Stream.{runOf}
 use Rattle.mirror.specs.declared.half.Half.{Half}

@@ -11,8 +11,7 @@ use Rattle.log.specs.Frames.{recordsOf}
 use Rattle.log.specs.declared.frame.Frame.the-variants.{Transfer}
 use Rattle.mirror.specs.Answer.{numberOf}
 use Rattle.mirror.specs.Panel.{soundPanel}
-use Rattle.mirror.specs.Way.{joinedOf}
-use Rattle.mirror.specs.Record.{free}
+use Rattle.mirror.specs.Words.{joinedOf, free}
 use Rattle.mirror.specs.Run.{mostCount, capped}
 use Rattle.mirror.specs.declared.half.Half.{Half}
 use Rattle.mirror.specs.declared.half.Half.the-variants.{Empty, Ignored, Waiting}

@@ -13,8 +13,9 @@ use Rattle.chip.specs.Step.{obeyed}
 use Rattle.chip.specs.declared.sheet.Sheet.{Sheet}
 use Rattle.mirror.specs.Answer.{numberOf}
 use Rattle.mirror.specs.Panel.{timeEnd, halfFits, soundPanel}
-use Rattle.mirror.specs.Way.{Way, joinedOf, finishOf, wholeOf, firstOf, secondOf, wayOf}
-use Rattle.mirror.specs.Record.{recorded, free, went, transferred, answered}
+use Rattle.mirror.specs.Way.{Way, finishOf, wholeOf, firstOf, secondOf, wayOf}
+use Rattle.mirror.specs.Words.{joinedOf, free}
+use Rattle.mirror.specs.Record.{recorded, went, transferred, answered}
 use Rattle.mirror.specs.declared.answer.Answer.the-variants as say
 use Rattle.mirror.specs.declared.half.Half.{Half}
 use Rattle.mirror.specs.declared.half.Half.the-variants.{Empty, Ignored, Waiting}

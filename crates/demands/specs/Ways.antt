@@ -9,8 +9,9 @@ use Rattle.laws.specs.Pick.{pick}
 use Rattle.log.specs.declared.frame.Frame.{Frame}
 use Rattle.log.specs.declared.frame.Frame.the-variants as frame
 use Rattle.chip.specs.Sheet.{freshSheet}
-use Rattle.mirror.specs.Way.{Way, nibbleOf, joinedOf, finishOf, wholeOf, firstOf, secondOf, unlessTorn, wayOf}
-use Rattle.mirror.specs.Record.{recorded, free, statusOf, hereOf, holding, done, spanOf, high, went, transferred, answered}
+use Rattle.mirror.specs.Way.{Way, finishOf, wholeOf, firstOf, secondOf, unlessTorn, wayOf}
+use Rattle.mirror.specs.Words.{nibbleOf, joinedOf, free, statusOf, hereOf, holding, done, high}
+use Rattle.mirror.specs.Record.{recorded, spanOf, went, transferred, answered}
 use Rattle.mirror.specs.declared.answer.Answer.{Answer}
 use Rattle.mirror.specs.declared.answer.Answer.the-variants as say
 use Rattle.mirror.specs.declared.half.Half.{Half}

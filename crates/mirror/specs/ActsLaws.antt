@@ -4,10 +4,11 @@ use mathlib.Core.Path.{_≡_, refl, sym, ap, _∙_}
 use mathlib.Core.Bool.{Bool, true, false, not, Bool·beq, false≢true}
 use lib.Dec.{eqb, ltb}
 use Rattle.laws.specs.Pick.{pick}
-use Rattle.mirror.specs.Record.{free, went, transferred}
+use Rattle.mirror.specs.Record.{went, transferred}
+use Rattle.mirror.specs.Words.{free, joinedOf}
 use Rattle.mirror.specs.RecordLaws.{by-way}
 use Rattle.mirror.specs.declared.panel.Panel.{Panel}
-use Rattle.mirror.specs.Way.{Way, joinedOf, finishOf, firstOf, secondOf, unlessTorn, wayOf}
+use Rattle.mirror.specs.Way.{Way, finishOf, firstOf, secondOf, unlessTorn, wayOf}
 use Rattle.mirror.specs.Acts.{endsOf, completesOf, restOf, endOf}
 use Rattle.mirror.specs.Live.{halfFrom}
 use Rattle.mirror.specs.declared.half.Half.{Half}

@@ -1,5 +1,7 @@
 -- The numbers of the answers to a record (document 01, "Answer numbers").
 use Prim.Native.Nat.{ℕ}
+use lib.Dec.{eqb}
+use Rattle.laws.specs.Pick.{pick}
 use Rattle.mirror.specs.declared.answer.Answer.{Answer}
 use Rattle.mirror.specs.declared.answer.Answer.the-variants.{Taken, Held, Status, Ignored, Torn, Back, Bad, Nothing, Cut, Unsound}
 
@@ -14,3 +16,37 @@ numberOf Bad = 6
 numberOf Nothing = 7
 numberOf Cut = 8
 numberOf Unsound = 10
+
+-- and the answer of a number
+abbrev pub answerOf : ℕ → Answer
+answerOf n =
+    pick (eqb n 0) Taken
+    (pick (eqb n 1) Held
+    (pick (eqb n 2) Status
+    (pick (eqb n 3) Ignored
+    (pick (eqb n 4) Torn
+    (pick (eqb n 5) Back
+    (pick (eqb n 6) Bad
+    (pick (eqb n 7) Nothing
+    (pick (eqb n 8) Cut Unsound))))))))
+
+-- the byte that an answer carries: the byte read for reads answered 0, 1 or 2
+abbrev pub carried : Answer → ℕ → ℕ
+carried Taken byte = byte
+carried Held byte = byte
+carried Status byte = byte
+carried Ignored byte = 0
+carried Torn byte = 0
+carried Back byte = 0
+carried Bad byte = 0
+carried Nothing byte = 0
+carried Cut byte = 0
+carried Unsound byte = 0
+
+-- what the paper says of an answer: its number and its bus byte
+pub record Paper : Type 0 where
+  pub number : ℕ
+  pub byte : ℕ
+
+abbrev pub paper : Answer → ℕ → Paper
+paper answer byte = record { number = numberOf answer; byte = carried answer byte }

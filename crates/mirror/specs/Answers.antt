@@ -5,7 +5,7 @@ use mathlib.Core.Bool.{Bool, false, _||_}
 use mathlib.Core.List.{List, [], _∷_}
 use lib.Dec.{leb, eqb}
 use Rattle.mirror.specs.Answer.{numberOf}
-use Rattle.mirror.specs.Record.{recordOf}
+use Rattle.mirror.specs.Table.{recordOf}
 use Rattle.mirror.specs.declared.panel.Panel.{Panel}
 
 -- the number that a record is answered with

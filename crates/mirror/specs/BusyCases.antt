@@ -6,7 +6,8 @@ use mathlib.Core.List.{List, [], _∷_}
 use Rattle.log.specs.Frame.{num16, num64, cutAt, badAt, frameOf, timeOf}
 use Rattle.chip.specs.Sound.{patternFits}
 use Rattle.mirror.specs.Panel.{freshPanel}
-use Rattle.mirror.specs.Record.{transferred, recordOf}
+use Rattle.mirror.specs.Record.{transferred}
+use Rattle.mirror.specs.Table.{recordOf}
 use Rattle.mirror.specs.Busy.{Entry, entriesFrom, Open, begunBy, widthAfter, openAfter}
 use Rattle.mirror.specs.Busy.Open.{none}
 

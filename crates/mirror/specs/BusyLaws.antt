@@ -13,8 +13,7 @@ use Rattle.log.specs.Frames.{frames}
 use Rattle.chip.specs.Step.{obeyed, written, passed}
 use Rattle.chip.specs.WidthLaws.{obeyed-width, written-width}
 use Rattle.mirror.specs.Panel.{freshPanel, halfFits}
-use Rattle.mirror.specs.Way.{joinedOf}
-use Rattle.mirror.specs.Record.{free}
+use Rattle.mirror.specs.Words.{joinedOf, free}
 use Rattle.mirror.specs.SoundParts.{parts}
 use Rattle.mirror.specs.Table.{waits, isFirst, differs, isStatus, busyAt, isNone, byteOf, sourceOf, heldHalf, panelFor}
 use Rattle.mirror.specs.Answers.{answerTo, panelAfter}

@@ -6,7 +6,7 @@ use mathlib.Core.List.{List}
 use Rattle.laws.specs.Pick.{pick}
 use Rattle.log.specs.Frame.{timeOf, rsOf, rwOf, isTransfer}
 use Rattle.mirror.specs.Panel.{halfFits}
-use Rattle.mirror.specs.Record.{free}
+use Rattle.mirror.specs.Words.{free}
 use Rattle.mirror.specs.SoundParts.{parts}
 use Rattle.mirror.specs.Table.{waits, isFirst, differs, tears, isStatus, busyAt, ignores, panelFor}
 use Rattle.mirror.specs.Answers.{answerTo, panelAfter, panelAfterAll, clocked, AllUnclocked}

@@ -1,5 +1,7 @@
 pub mod Answer
 pub mod Panel
+pub mod Words
+pub mod Table
 pub mod Way
 pub mod Record
 pub mod Flat
@@ -15,11 +17,10 @@ pub mod Part
 pub mod PartLaws
 pub mod Stream
 pub mod StreamLaws
-pub mod NextLaws
 pub mod SoundParts
-pub mod Table
 pub mod Promise
 pub mod TableLaws
+pub mod NextLaws
 pub mod Answers
 pub mod TableCase
 pub mod RecordKeeps

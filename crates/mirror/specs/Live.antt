@@ -7,7 +7,8 @@ use Rattle.laws.specs.Pick.{pick}
 use Rattle.chip.specs.Sheet.{sheetOf}
 use Rattle.mirror.specs.Flat.{registersFrom}
 use Rattle.chip.specs.declared.registers.Registers.{Registers}
-use Rattle.mirror.specs.Record.{recorded, holding, statusOf, done}
+use Rattle.mirror.specs.Record.{recorded}
+use Rattle.mirror.specs.Words.{holding, statusOf, done}
 use Rattle.mirror.specs.declared.answer.Answer.{Answer}
 use Rattle.mirror.specs.declared.answer.Answer.the-variants as say
 use mathlib.Core.Bool.{Bool}

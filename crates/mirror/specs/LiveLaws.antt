@@ -7,7 +7,8 @@ use Rattle.chip.specs.Sheet.{sheetOf}
 use Rattle.chip.specs.declared.registers.Registers.{Registers}
 use Rattle.mirror.specs.Flat.{patternedOf, placeOf, modesOf, registersFrom}
 use Rattle.mirror.specs.FlatLaws.{registers-back}
-use Rattle.mirror.specs.Record.{recorded, done}
+use Rattle.mirror.specs.Record.{recorded}
+use Rattle.mirror.specs.Words.{done}
 use Rattle.mirror.specs.Live.{panelOf, recordedOf, Passes}
 use Rattle.mirror.specs.declared.answer.Answer.the-variants as say
 use Rattle.mirror.specs.declared.flat.Modes.{Modes}

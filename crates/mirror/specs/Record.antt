@@ -1,21 +1,16 @@
--- One record (document 01, "Busy", "Halves"): the panel, the answer, the bus byte and the bytes used.
-use Prim.Native.Nat.{ℕ, _+_, _*_, _%_, _/_}
+-- What the engine makes of one record, way by way. That it is the table's row is the law `answered-sound` (TableLaws.antt).
+use Prim.Native.Nat.{ℕ, _*_, _%_, _/_}
 use mathlib.Core.Bool.{Bool}
-use mathlib.Core.List.{List}
-use lib.Dec.{ltb, leb}
+use lib.Dec.{ltb}
 use Rattle.laws.specs.Pick.{pick}
-use Rattle.log.specs.Frame.{frameOf}
 use Rattle.log.specs.declared.frame.Frame.{Frame}
 use Rattle.log.specs.declared.frame.Frame.the-variants as frame
-use Rattle.chip.specs.Address.{numberOf}
-use Rattle.chip.specs.Sheet.{freshSheet, readHere}
+use Rattle.chip.specs.Sheet.{freshSheet}
 use Rattle.chip.specs.Step.{obeyed, written, passed}
-use Rattle.chip.specs.declared.sheet.Sheet.{Sheet}
-use Rattle.mirror.specs.Panel.{soundPanel}
-use Rattle.mirror.specs.Way.{Way, nibbleOf, joinedOf, wayOf}
+use Rattle.mirror.specs.Way.{Way, wayOf}
+use Rattle.mirror.specs.Words.{free, statusOf, hereOf, holding, done, high, nibbleOf, joinedOf}
 use Rattle.mirror.specs.declared.answer.Answer.{Answer}
 use Rattle.mirror.specs.declared.answer.Answer.the-variants as say
-use Rattle.mirror.specs.declared.half.Half.{Half}
 use Rattle.mirror.specs.declared.half.Half.the-variants.{Empty, Ignored, Waiting}
 use Rattle.mirror.specs.declared.panel.Panel.{Panel}
 use Rattle.mirror.specs.declared.record.Recorded.{Recorded}
@@ -23,35 +18,9 @@ use Rattle.mirror.specs.declared.record.Recorded.{Recorded}
 abbrev pub recorded : Panel → Answer → ℕ → ℕ → Recorded
 recorded p answer byte used = record { panel = p; answer = answer; byte = byte; used = used }
 
--- a transfer is free when its time is at or after the busy end
-abbrev pub free : ℕ → Panel → Bool
-free time p = leb (p .busy) time
-
--- a status read: bit 7 is 1 while busy, bits 6 to 0 are the address
-abbrev pub statusOf : ℕ → Panel → ℕ
-statusOf time p =
-    let n = numberOf (p .sheet .registers .address) in
-    pick (free time p) n (128 + n)
-
--- the byte at the address
-abbrev pub hereOf : Panel → ℕ
-hereOf p = readHere (p .sheet .registers) (p .sheet .display) (p .sheet .pattern)
-
--- the last time set, and the half that then waits
-abbrev pub holding : ℕ → Half → Panel → Panel
-holding time half p = record { sheet = p .sheet; busy = p .busy; half = half; times = p .times; last = time }
-
--- carried out: the sheet, the busy end at the record's time plus the execution time, no half
-abbrev pub done : ℕ → Sheet → ℕ → Panel → Panel
-done time sheet span p = record { sheet = sheet; busy = time + span; half = Empty; times = p .times; last = time }
-
 -- Clear and Return Home take the long time, every other instruction the short
 abbrev pub spanOf : ℕ → Panel → ℕ
 spanOf code p = pick (ltb code 4) (p .times .long) (p .times .short)
-
--- the high half of a byte, in the high four bits
-abbrev pub high : ℕ → ℕ
-high b = b / 16 * 16
 
 -- what each way comes to
 abbrev pub went : Way → ℕ → Bool → Bool → ℕ → ℕ → Panel → Recorded
@@ -85,7 +54,3 @@ answered (frame.Bad n) p = recorded p say.Bad 0 n
 answered (frame.Reset time) p =
     pick (ltb time (p .last)) (recorded p say.Back 0 12) (recorded (done time freshSheet (p .times .reset) p) say.Taken 0 12)
 answered (frame.Transfer time rs wr bus) p = pick (ltb time (p .last)) (recorded p say.Back 0 14) (transferred time rs wr bus p)
-
--- a record at the front of a log: an unsound panel is refused before the log is looked at
-unfoldable pub recordOf : Panel → List ℕ → Recorded
-recordOf p log = pick (soundPanel p) (answered (frameOf log) p) (recorded p say.Unsound 0 0)

@@ -8,7 +8,7 @@ use borrow.Author.Tests.{eqb-true}
 use Rattle.laws.specs.Pick.{pick}
 use Rattle.log.specs.Frame.{kindOf, timeOf, rsOf, rwOf, isTransfer, isReset}
 use Rattle.chip.specs.declared.sheet.Sheet.{Sheet}
-use Rattle.mirror.specs.Record.{holding, done}
+use Rattle.mirror.specs.Words.{holding, done}
 use Rattle.mirror.specs.Table.{waits, isFirst, isStatus, sheetFor, spanFor, heldHalf, ignoredHalf, panelFor}
 use Rattle.mirror.specs.Answers.{answerTo, panelAfter, panelAfterAll, clocked, AllUnclocked}
 use Rattle.mirror.specs.TableCase.{Case, answer-case, each-row}

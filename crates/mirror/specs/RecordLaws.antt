@@ -9,8 +9,10 @@ use Rattle.chip.specs.Sheet.{sheetOf, readHere}
 use Rattle.chip.specs.declared.registers.Registers.{Registers}
 use Rattle.chip.specs.declared.sheet.Sheet.{Sheet}
 use Rattle.mirror.specs.Panel.{soundPanel}
-use Rattle.mirror.specs.Way.{Way, joinedOf, wayOf}
-use Rattle.mirror.specs.Record.{recorded, free, holding, done, high, went, transferred, answered, recordOf}
+use Rattle.mirror.specs.Way.{Way, wayOf}
+use Rattle.mirror.specs.Words.{joinedOf, free, holding, done, high}
+use Rattle.mirror.specs.Record.{recorded, went, transferred, answered}
+use Rattle.mirror.specs.Table.{recordOf}
 use Rattle.mirror.specs.declared.answer.Answer.{Answer}
 use Rattle.mirror.specs.declared.answer.Answer.the-variants as say
 use Rattle.mirror.specs.declared.half.Half.the-variants.{Waiting}
@@ -54,13 +56,3 @@ read-as b r q d p e g = e ∙ ap (λ x. readHere x d p) g
 pub span-as : (time : ℕ) (s : Sheet) (span width : ℕ) (p : Panel) (b used : ℕ) → span ≡ width →
     recorded (done time s span p) say.Taken b used ≡ recorded (done time s width p) say.Taken b used
 span-as time s span width p b used e = ap (λ x. recorded (done time s x p) say.Taken b used) e
-
--- a sound panel is not refused
-pub answered-sound : (p : Panel) (log : List ℕ) → soundPanel p ≡ true → answered (frameOf log) p ≡ recordOf p log
-unfolding recordOf
-answered-sound p log e = sym (ap (λ b. pick b (answered (frameOf log) p) (recorded p say.Unsound 0 0)) e)
-
--- and an unsound one is
-pub refused-unsound : (p : Panel) (log : List ℕ) → soundPanel p ≡ false → recordOf p log ≡ recorded p say.Unsound 0 0
-unfolding recordOf
-refused-unsound p log e = ap (λ b. pick b (answered (frameOf log) p) (recorded p say.Unsound 0 0)) e

@@ -16,8 +16,9 @@ use Rattle.log.specs.FramesLaws.{frames-cut, tail-cut, front-next}
 use Rattle.log.specs.declared.frame.Frame.{Frame}
 use Rattle.log.specs.declared.frame.Frame.the-variants as frame
 use Rattle.chip.specs.Sheet.{freshSheet}
-use Rattle.mirror.specs.Way.{Way, wayOf, joinedOf}
-use Rattle.mirror.specs.Record.{recorded, free, done, went, transferred, answered}
+use Rattle.mirror.specs.Way.{Way, wayOf}
+use Rattle.mirror.specs.Words.{joinedOf, free, done}
+use Rattle.mirror.specs.Record.{recorded, went, transferred, answered}
 use Rattle.mirror.specs.Run.{counted, advanced, onward, consumedOf}
 use Rattle.mirror.specs.declared.answer.Answer.the-variants as say
 use Rattle.mirror.specs.declared.panel.Panel.{Panel}

@@ -11,8 +11,9 @@ use borrow.Author.Tests.{eqb-true, eqb-false}
 use Rattle.laws.specs.Pick.{pick}
 use Rattle.log.specs.Frame.{frameOf}
 use Rattle.log.specs.Frames.{frames, tail}
-use Rattle.mirror.specs.Record.{answered, recordOf}
-use Rattle.mirror.specs.RecordLaws.{answered-sound}
+use Rattle.mirror.specs.Record.{answered}
+use Rattle.mirror.specs.Table.{recordOf}
+use Rattle.mirror.specs.TableLaws.{answered-sound}
 use Rattle.mirror.specs.SoundParts.{whole}
 use Rattle.mirror.specs.SoundLaws.{Lasts, record-lasts}
 use Rattle.mirror.specs.Run.{counted, onward}

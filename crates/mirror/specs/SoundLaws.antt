@@ -13,7 +13,7 @@ use Rattle.chip.specs.Sheet.{freshSheet}
 use Rattle.chip.specs.Step.{obeyed, written, passed}
 use Rattle.chip.specs.SoundLaws as chip
 use Rattle.mirror.specs.Panel.{freshPanel, halfFits, timeEnd, soundPanel}
-use Rattle.mirror.specs.Record.{free, holding, done}
+use Rattle.mirror.specs.Words.{free, holding, done}
 use Rattle.mirror.specs.SoundParts.{Sound, parts, whole}
 use Rattle.mirror.specs.Table.{waits, busyAt, sourceOf, byteOf, heldHalf, ignoredHalf, sheetFor, isLong, spanFor, panelFor}
 use Rattle.mirror.specs.Answers.{panelAfter}

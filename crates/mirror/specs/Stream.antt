@@ -7,20 +7,18 @@ use lib.Dec.{ltb}
 use Rattle.laws.specs.Pick.{pick}
 use Rattle.log.specs.Frame.{frameOf, cutAt, wantsMore}
 use Rattle.log.specs.Frames.{frames, tail, recordsOf}
+use Rattle.log.specs.Flaw.{flawOf}
 use Rattle.log.specs.Carry.{carriedOf, carryOf, wantingOf, more, filled}
 use Rattle.mirror.specs.Panel.{soundPanel, freshPanel}
 use Rattle.mirror.specs.Record.{answered}
-use Rattle.mirror.specs.Record.{answered}
-use Rattle.mirror.specs.Run.{capped, started, counted, onward}
-use Rattle.mirror.specs.declared.answer.Answer.{Answer}
-use Rattle.mirror.specs.declared.answer.Answer.the-variants as say
+use Rattle.mirror.specs.Run.{capped, raised, started, counted, onward}
 use Rattle.mirror.specs.declared.panel.Panel.{Panel}
 use Rattle.mirror.specs.declared.totals.Totals.{Totals}
 use Rattle.mirror.specs.declared.stream.Stream.{Stream}
 use Rattle.mirror.specs.declared.stream.Run.{Run}
 use Rattle.mirror.specs.declared.stream.Next.{Next}
-use Rattle.mirror.specs.declared.stream.Reply.{Reply}
-use Rattle.mirror.specs.declared.stream.Reply.the-variants.{Answered, More, Cut}
+use Rattle.mirror.specs.declared.stream.Front.{Front}
+use Rattle.mirror.specs.declared.stream.Reply.the-variants.{Answered, More, Cut, Refused}
 
 -- what a log read with an unsound panel is counted with: only its number of records is shown
 abbrev pub standIn : Panel
@@ -34,9 +32,23 @@ startAs sound p =
 abbrev pub startOf : Panel → Stream
 startOf p = startAs (soundPanel p) p
 
+-- the panel so far; the one that was handed in, where it was refused
+abbrev pub panelIn : Stream → Panel
+panelIn st = pick (st .refused) (st .given) (st .totals .panel)
+
+-- the number of the record that comes next, counted from 1
+abbrev pub numberIn : Stream → ℕ
+numberIn st = raised (st .totals .records)
+
 -- the bytes that wait for more
 abbrev pub waitingBytes : Stream → List ℕ
 waitingBytes st = wantingOf (carriedOf (st .carry))
+
+-- the record that these and a part make whole, and what is wrong with it where it is bad
+abbrev pub frontOf : Stream → List ℕ → Front
+frontOf st part =
+    let v = filled (waitingBytes st) part in
+    record { frame = frameOf v; flaw = flawOf v }
 
 -- a stream with these totals and this unread tail: kept where it wants more, and otherwise a cut, which is final
 abbrev pub restedOf : Stream → Totals → List ℕ → Stream
@@ -49,23 +61,20 @@ feedOf st part =
     let s = waitingBytes st ++ part in
     pick (st .over) st (restedOf st (onward (st .totals) (frames s)) (tail s))
 
--- an answer given alone: 10 to each record where the panel was refused
-abbrev pub replyOf : Stream → Answer → ℕ → Reply
-replyOf st answer byte = pick (st .refused) (Answered say.Unsound 0) (Answered answer byte)
-
 -- no record is answered: a cut was met, or more bytes are wanted
 abbrev pub stoppedOf : Stream → ℕ → Next
 stoppedOf st taken = record { stream = st; taken = taken; reply = pick (st .over) Cut More }
 
--- the next record alone, out of the bytes that wait and no more of the part than it needs
+-- the next record alone, out of the bytes that wait and no more of the part than it needs; 10 comes before 8, and both are final
 unfoldable pub nextOf : Stream → List ℕ → Next
 nextOf st part =
     let v = filled (waitingBytes st) part in
     let n = length (more (waitingBytes st) part) in
     let r = answered (frameOf v) (st .totals .panel) in
-    pick (st .over) (record { stream = st; taken = 0; reply = Cut })
+    pick (st .refused) (record { stream = st; taken = 0; reply = Refused })
+    (pick (st .over) (record { stream = st; taken = 0; reply = Cut })
     (pick (cutAt v) (record { stream = restedOf st (st .totals) v; taken = n; reply = pick (wantsMore v) More Cut })
-    (record { stream = restedOf st (counted (st .totals) r) []; taken = n; reply = replyOf st (r .answer) (r .byte) }))
+    (record { stream = restedOf st (counted (st .totals) r) []; taken = n; reply = Answered (r .answer) (r .byte) })))
 
 -- the end: bytes that still wait are a cut
 abbrev pub cutOf : Stream → Bool

@@ -10,7 +10,7 @@ use lib.Seq.{drop-append-seam, drop-drop}
 use lib.Dec.{ltb}
 use borrow.Author.Tests.{ltb-true, ltb-false, lt-ltb, le-ltb}
 use Rattle.laws.specs.Pick.{pick}
-use Rattle.log.specs.Frame.{cutAt, wantsMore, broken, recordSize}
+use Rattle.log.specs.Frame.{frameOf, cutAt, wantsMore, broken, recordSize}
 use Rattle.log.specs.Frames.{Pieces, then, frames, tail, joined}
 use Rattle.log.specs.FrontLaws.{uncut-front}
 use Rattle.log.specs.FrameLaws.{cut-frame, frame-cut}
@@ -18,11 +18,14 @@ use Rattle.log.specs.CutLaws.{cut-either, cut-one, none-want, broken-append, wa
 use Rattle.log.specs.FramesLaws.{frames-cut, tail-cut, tail-next, joined-frames, tail-is-cut, pieces-append, pieces-broken, record-first}
 use Rattle.log.specs.Carry.{carriedOf, carryOf, wantingOf, reach, toppedOf, more, filled, left, filledOf, Held}
 use Rattle.log.specs.CarryLaws.{carried, fill-carried, wanting-wants, fill-wants, fill-broken, fill-frame, fill-front, fill-whole}
+use Rattle.log.specs.Flaw.{flawOf}
+use Rattle.log.specs.declared.flaw.Flaw.{Flaw}
+use Rattle.log.specs.declared.frame.Frame.{Frame}
 use Rattle.log.specs.declared.carry.Carry.{Carry}
 use Rattle.log.specs.declared.carry.Filled.{Filled}
 use Rattle.mirror.specs.Panel.{soundPanel}
 use Rattle.mirror.specs.Run.{mostCount, capped, raised, started, advanced, onward, consumedOf}
-use Rattle.mirror.specs.Stream.{standIn, startAs, startOf, waitingBytes, restedOf, feedOf, cutOf, endOf, runAs, runOf}
+use Rattle.mirror.specs.Stream.{standIn, startAs, startOf, waitingBytes, frontOf, restedOf, feedOf, cutOf, endOf, runAs, runOf}
 use Rattle.mirror.specs.declared.panel.Panel.{Panel}
 use Rattle.mirror.specs.declared.totals.Totals.{Totals}
 use Rattle.mirror.specs.declared.totals.Consumed.{Consumed}
@@ -262,6 +265,15 @@ has-fed st part w f h e g k =
       takes = t;
       within = omega (arith, t, length-take (reach (waitingBytes st ++ part) - length (waitingBytes st)) part);
     }
+
+-- what `front` reads off the carry once it is filled
+pub front-read : (st : Stream) (part : List ℕ) (w : Carry) (f : Filled) (frame : Frame) (flaw : Flaw) →
+    w ≡ carryOf (waitingBytes st) → f ≡ filledOf (carriedOf w) part → frame ≡ frameOf (carriedOf (f .carry)) → flaw ≡ flawOf (carriedOf (f .carry)) →
+    record { frame = frame; flaw = flaw } ≡ frontOf st part
+front-read st part w f frame flaw e g h k =
+    let q = g ∙ ap (λ x. filledOf (carriedOf x) part) e ∙ ap (λ x. filledOf x part) (carried (waitingBytes st)) in
+    let v = ap (λ (x : Filled). carriedOf (x .carry)) q ∙ fill-carried (waitingBytes st) part in
+    rw (h ∙ ap frameOf v, k ∙ ap flawOf v)
 
 -- the first record is not whole yet: all rests
 pub feed-stops : {st : Stream} {part v : List ℕ} {taken : ℕ} → Fed st part v taken → st .over ≡ false → (q : Consumed) → q ≡ consumedOf (st .totals) v →

@@ -1,5 +1,5 @@
 -- The table of answers (document 01, "Answer numbers", "Busy", "Halves"), row by row and in the stated order.
--- It does not look at how the engine decides: `tabled` (TableLaws.antt) holds the one against the other.
+-- It does not look at how the engine decides: `answered-sound` (TableLaws.antt) holds the one against the other.
 use Prim.Native.Nat.{ℕ, _*_, _%_, _/_}
 use mathlib.Core.Path.{_≡_}
 use mathlib.Core.Bool.{Bool, true, false, not, _&&_, _||_, Bool·beq}
@@ -10,12 +10,9 @@ use Rattle.log.specs.Frame.{timeOf, dataOf, rsOf, rwOf, isTransfer, isReset, re
 use Rattle.chip.specs.Sheet.{freshSheet}
 use Rattle.chip.specs.Step.{obeyed, written, passed}
 use Rattle.chip.specs.declared.sheet.Sheet.{Sheet}
-use Rattle.mirror.specs.Answer.{numberOf}
+use Rattle.mirror.specs.Answer.{answerOf, paper}
 use Rattle.mirror.specs.Panel.{soundPanel}
-use Rattle.mirror.specs.Way.{nibbleOf, joinedOf}
-use Rattle.mirror.specs.Record.{free, statusOf, hereOf, holding, done, high}
-use Rattle.mirror.specs.declared.answer.Answer.{Answer}
-use Rattle.mirror.specs.declared.answer.Answer.the-variants as say
+use Rattle.mirror.specs.Words.{nibbleOf, joinedOf, free, statusOf, hereOf, holding, done, high}
 use Rattle.mirror.specs.declared.half.Half.{Half}
 use Rattle.mirror.specs.declared.half.Half.the-variants.{Empty, Ignored, Waiting}
 use Rattle.mirror.specs.declared.panel.Panel.{Panel}
@@ -132,27 +129,6 @@ panelFor n p log =
 abbrev pub usedFor : ℕ → List ℕ → ℕ
 usedFor n log = pick (eqb n 8 || eqb n 10) 0 (recordSize log)
 
--- the byte that an answer carries: the byte read for reads answered 0, 1 or 2
-abbrev pub carried : Answer → ℕ → ℕ
-carried say.Taken byte = byte
-carried say.Held byte = byte
-carried say.Status byte = byte
-carried say.Ignored byte = 0
-carried say.Torn byte = 0
-carried say.Back byte = 0
-carried say.Bad byte = 0
-carried say.Nothing byte = 0
-carried say.Cut byte = 0
-carried say.Unsound byte = 0
-
--- what the paper says of an answer: its number and its bus byte
-pub record Paper : Type 0 where
-  pub number : ℕ
-  pub byte : ℕ
-
-abbrev pub paper : Answer → ℕ → Paper
-paper answer byte = record { number = numberOf answer; byte = carried answer byte }
-
 -- a row of the table: what a record answered with a number comes to
 pub record Row (n : ℕ) (p : Panel) (log : List ℕ) (r : Recorded) : Type 0 where
   pub paper : paper (r .answer) (r .byte) ≡ record { number = n; byte = r .byte }
@@ -163,3 +139,11 @@ pub record Row (n : ℕ) (p : Panel) (log : List ℕ) (r : Recorded) : Type 0 wh
 -- the table: the row of the number that the tests give
 abbrev pub Tabled : Panel → List ℕ → Recorded → Type 0
 Tabled p log r = Row (numberFor p log) p log r
+
+-- what that row describes
+abbrev pub rowOf : ℕ → Panel → List ℕ → Recorded
+rowOf n p log = record { panel = panelFor n p log; answer = answerOf n; byte = byteFor n p log; used = usedFor n log }
+
+-- one record at the front of a log
+unfoldable pub recordOf : Panel → List ℕ → Recorded
+recordOf p log = rowOf (numberFor p log) p log

@@ -7,7 +7,8 @@ use Rattle.laws.specs.Pick.{pick}
 use Rattle.log.specs.Frame.{isReset, cutAt, badAt}
 use Rattle.mirror.specs.Panel.{soundPanel}
 use Rattle.mirror.specs.Answers.{answerTo, panelAfter}
-use Rattle.mirror.specs.Table.{isBack, tears, ignores, isNone, isFirst, isStatus, transferFor, numberFor, panelFor, Paper}
+use Rattle.mirror.specs.Table.{isBack, tears, ignores, isNone, isFirst, isStatus, transferFor, numberFor, panelFor}
+use Rattle.mirror.specs.Answer.{Paper}
 use Rattle.mirror.specs.TableLaws.{tabled}
 use Rattle.mirror.specs.declared.panel.Panel.{Panel}
 

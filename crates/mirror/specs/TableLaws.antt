@@ -1,6 +1,6 @@
 -- One record is answered as the table says.
 use Prim.Native.Nat.{ℕ}
-use mathlib.Core.Path.{_≡_, refl}
+use mathlib.Core.Path.{_≡_, refl, sym, ap, subst, _∙_}
 use mathlib.Core.Bool.{Bool, true, false, not, _&&_, _||_, Bool·beq, false≢true}
 use mathlib.Core.List.{List}
 use lib.Dec.{eqb}
@@ -11,11 +11,14 @@ use Rattle.log.specs.FrameLaws.Seen.{cut, bad, transfer, reset}
 use Rattle.log.specs.declared.frame.Frame.{Frame}
 use Rattle.chip.specs.Sheet.{freshSheet}
 use Rattle.mirror.specs.Panel.{halfFits, soundPanel}
-use Rattle.mirror.specs.Way.{Way, joinedOf, wholeOf, firstOf, secondOf, wayOf}
-use Rattle.mirror.specs.Record.{recorded, free, done, went, transferred, answered, recordOf}
+use Rattle.mirror.specs.Way.{Way, wholeOf, firstOf, secondOf, wayOf}
+use Rattle.mirror.specs.Words.{joinedOf, free, done}
+use Rattle.mirror.specs.Record.{recorded, went, transferred, answered}
+use Rattle.mirror.specs.Table.{waits, differs, busyAt, isBack, transferFor, byteFor, panelFor, usedFor, Row, Tabled, rowOf, recordOf}
 use Rattle.mirror.specs.SoundParts.{Sound, parts}
-use Rattle.mirror.specs.Table.{waits, differs, busyAt, isBack, transferFor, byteFor, panelFor, usedFor, paper, Row, Tabled}
+use Rattle.mirror.specs.Answer.{numberOf, answerOf, Paper, paper}
 use Rattle.mirror.specs.Promise.{Records}
+use Rattle.mirror.specs.declared.answer.Answer.{Answer}
 use Rattle.mirror.specs.declared.answer.Answer.the-variants as say
 use Rattle.mirror.specs.declared.half.Half.{Half}
 use Rattle.mirror.specs.declared.half.Half.the-variants.{Empty, Ignored, Waiting}
@@ -143,14 +146,59 @@ module _ (p : Panel) (log : List ℕ) where
       (unless-back (isBack p log) (recorded (done (timeOf log) freshSheet (p .times .reset) p) say.Taken 0 12) (g .size)
       (row p log refl (rw k) (rw k) (g .size)))
 
+-- the number of an answer tells it
+named : (a : Answer) → answerOf (numberOf a) ≡ a
+named say.Taken = refl
+named say.Held = refl
+named say.Status = refl
+named say.Ignored = refl
+named say.Torn = refl
+named say.Back = refl
+named say.Bad = refl
+named say.Nothing = refl
+named say.Cut = refl
+named say.Unsound = refl
+
+-- a row of the table says all of a record
+pub row-is : {n : ℕ} {p : Panel} {log : List ℕ} (r : Recorded) → Row n p log r → r ≡ rowOf n p log
+row-is {n} {p} {log} r h =
+    let a : r .answer ≡ answerOf n = sym (named (r .answer)) ∙ ap (λ (x : Paper). answerOf (x .number)) (h .paper) in
+    ap (λ x. record { panel = x; answer = r .answer; byte = r .byte; used = r .used }) (h .panel)
+    ∙ ap (λ x. record { panel = panelFor n p log; answer = x; byte = r .byte; used = r .used }) a
+    ∙ ap (λ x. record { panel = panelFor n p log; answer = answerOf n; byte = x; used = r .used }) (h .byte)
+    ∙ ap (λ x. record { panel = panelFor n p log; answer = answerOf n; byte = byteFor n p log; used = x }) (h .used)
+
+-- what the engine makes of a record is a row of the table
+engine-row : (p : Panel) (log : List ℕ) (b : Bool) → soundPanel p ≡ b →
+    Row (pick (not b) 10 (frameNumber p log)) p log (pick b (answered (frameOf log) p) (recorded p say.Unsound 0 0))
+engine-row p log true e = frame-row p log (parts p e) (frameOf log) (seen log)
+engine-row p log false e = row p log refl refl refl refl
+
+-- and so, of a sound panel, what the table says
+pub answered-sound : (p : Panel) (log : List ℕ) → soundPanel p ≡ true → answered (frameOf log) p ≡ recordOf p log
+unfolding recordOf
+answered-sound p log e =
+    row-is (answered (frameOf log) p) (engine-row p log true e) ∙ ap (λ b. rowOf (pick (not b) 10 (frameNumber p log)) p log) (sym e)
+
+-- an unsound one is refused
+pub refused-unsound : (p : Panel) (log : List ℕ) → soundPanel p ≡ false → recordOf p log ≡ recorded p say.Unsound 0 0
+unfolding recordOf
+refused-unsound p log e = ap (λ b. rowOf (pick (not b) 10 (frameNumber p log)) p log) e
+
 -- one record: the answer's number, the bus byte, the panel afterwards and the bytes used are the table's
 pub tabled : (p : Panel) (log : List ℕ) → Tabled p log (recordOf p log)
-unfolding recordOf
-tabled p log = by (soundPanel p) refl where
-  by : (b : Bool) → soundPanel p ≡ b →
-      Row (pick (not b) 10 (frameNumber p log)) p log (pick b (answered (frameOf log) p) (recorded p say.Unsound 0 0))
-  by true e = frame-row p log (parts p e) (frameOf log) (seen log)
-  by false e = row p log refl refl refl refl
+tabled p log = by (soundPanel p) refl
+  where
+    same : (r : Recorded) → r ≡ recordOf p log → Tabled p log r → Tabled p log (recordOf p log)
+    same r e h = subst (Tabled p log) e h
+
+    by : (b : Bool) → soundPanel p ≡ b → Tabled p log (recordOf p log)
+    by true e =
+        same (answered (frameOf log) p) (answered-sound p log e)
+        (subst (λ b. Row (pick (not b) 10 (frameNumber p log)) p log (answered (frameOf log) p)) (sym e) (engine-row p log true e))
+    by false e =
+        same (recorded p say.Unsound 0 0) (sym (refused-unsound p log e))
+        (subst (λ b. Row (pick (not b) 10 (frameNumber p log)) p log (recorded p say.Unsound 0 0)) (sym e) (engine-row p log false e))
 
 -- so what one record comes to is all that `record` promises
 pub records : (p : Panel) (log : List ℕ) (r : Recorded) → r ≡ recordOf p log → Records p log r

@@ -1,5 +1,5 @@
 -- The way that a transfer goes (document 01, "Busy", "Halves").
-use Prim.Native.Nat.{ℕ, _+_, _*_, _%_, _/_}
+use Prim.Native.Nat.{ℕ}
 use mathlib.Core.Bool.{Bool, not, Bool·beq}
 use lib.Dec.{eqb}
 use Rattle.laws.specs.Pick.{pick}
@@ -25,16 +25,6 @@ pub data Way : Type 0 where
   -- a byte written, whole or joined: data, or an instruction
   Write : Way
   Obey : Way
-
--- the nibble that waits
-abbrev pub nibbleOf : Half → ℕ
-nibbleOf half.Empty = 0
-nibbleOf (half.Ignored rs wr) = 0
-nibbleOf (half.Waiting rs wr nibble) = nibble % 16
-
--- at width 8 the data byte is used in full; at width 4 the first transfer gives the high half, the second the low half
-abbrev pub joinedOf : Bool → Half → ℕ → ℕ
-joinedOf eight half bus = pick eight bus (nibbleOf half * 16 + bus / 16)
 
 -- a write whose byte is complete: data, none, or an instruction
 abbrev pub finishOf : Bool → ℕ → Way

@@ -1,5 +1,6 @@
 // The mirror: the panel, which is the sheet's machine with a clock and at most one waiting half, and its answers.
 pub mod answer;
+pub mod count;
 mod flat;
 pub mod half;
 mod live;
@@ -7,5 +8,5 @@ pub mod panel;
 mod part;
 pub mod record;
 pub mod stream;
-pub mod totals;
+mod totals;
 mod transfer;

@@ -1,7 +1,7 @@
 // The engine's state: a panel without its memories and times, laid flat, with what it last answered.
 ghost use mathlib.Core.Path.{_≡_};
 ghost use Prim.Native.Nat.{_<_};
-ghost use lib.Dec.{ltb};
+ghost use lib.Dec.{leb, ltb};
 ghost use Rattle.laws.specs.Pick.{pick};
 ghost use Rattle.mirror.specs.Panel.{timeEnd};
 ghost use Rattle.mirror.specs.Live.{registersOf, halfOf, panelOf, Opens, Refuses, Passes, Misses, Waits, Offers, Tears, Does, Shows};
@@ -138,6 +138,20 @@ impl Live {
         }
     }
 
+    // A transfer is free when its time is at or after the busy end.
+    pub(crate) fn free(self, time: u64) -> bool
+        ensures { λ r. ⌜ r ≡ leb (self .busy) time ⌝ }
+    {
+        self.busy <= time
+    }
+
+    // A record is back when its time is below the last time seen.
+    pub(crate) fn back(self, time: u64) -> bool
+        ensures { λ r. ⌜ r ≡ ltb time (self .last) ⌝ }
+    {
+        time < self.last
+    }
+
     // Not acted on: nothing changes.
     pub(crate) fn refuse(self, answer: Answer, used: usize) -> Live
         ensures { λ r. ⌜ Refuses answer used self r ⌝ }
@@ -241,6 +255,6 @@ impl Live {
     {
         let a = address(self.patterned, self.place);
         let n = a.number();
-        if self.busy <= time { n } else { 128 + n }
+        if self.free(time) { n } else { 128 + n }
     }
 }

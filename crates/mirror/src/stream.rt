@@ -1,22 +1,27 @@
 // The streaming form: a log in parts of any size, the bytes between two parts carried in the state. And a run, which is
 // one part.
 ghost use mathlib.Core.Path.{_≡_};
-ghost use Rattle.mirror.specs.Stream.{startOf, restedOf, feedOf, replyOf, stoppedOf, nextOf, endOf, runOf};
+ghost use Rattle.mirror.specs.Stream.{startOf, panelIn, numberIn, frontOf, restedOf, feedOf, stoppedOf, endOf};
+ghost use Rattle.mirror.specs.Promise.{Replies, Runs, endNumber, runNumber};
 use crate::answer::Answer;
+use crate::count::raise;
 use crate::panel::Panel;
 use crate::totals::Totals;
 use log::carry::Carry;
 use log::carry::carried;
+use log::flaw::Flaw;
+use log::frame::Frame;
 use log::front::wants_more;
 
+// Nobody outside can put one together, so its panel is sound or was refused.
 pub struct Stream {
-    pub totals: Totals,
-    pub carry: Carry,
+    totals: Totals,
+    carry: Carry,
     // A cut was met: nothing more is read.
-    pub over: bool,
+    over: bool,
     // The panel handed in, and whether it was refused.
-    pub given: Panel,
-    pub refused: bool,
+    given: Panel,
+    refused: bool,
 }
 
 pub struct Run {
@@ -27,11 +32,12 @@ pub struct Run {
     pub refused: bool,
 }
 
-// What a call for one answer comes to: the answer, more bytes wanted, or a cut, which is final.
+// What a call for one answer comes to: the answer; more bytes wanted; a cut, or a panel that was refused: these two are final.
 pub enum Reply {
     Answered { answer: Answer, byte: u8 },
     More,
     Cut,
+    Refused,
 }
 
 // The stream after it, and how many bytes of the part were taken.
@@ -39,6 +45,38 @@ pub struct Next {
     pub stream: Stream,
     pub taken: usize,
     pub reply: Reply,
+}
+
+// A record, and what is wrong with it where it is bad.
+pub struct Front {
+    pub frame: Frame,
+    pub flaw: Flaw,
+}
+
+impl Reply {
+    // The number of the answer that ends a reading, 8 or 10; 0 where it goes on.
+    pub fn refusal(self) -> u8
+        ensures { λ r. ⌜ r ≡ endNumber self ⌝ }
+    {
+        match self {
+            Reply::Answered { answer: _, byte: _ } => 0,
+            Reply::More => 0,
+            Reply::Cut => 8,
+            Reply::Refused => 10,
+        }
+    }
+}
+
+impl Run {
+    // The number of the answer that ended it, 8 or 10; 0 where it was read to its end.
+    pub fn refusal(self) -> u8
+        ensures { λ r. ⌜ r ≡ runNumber self ⌝ }
+    {
+        if self.refused {
+            return 10;
+        }
+        if self.cut { 8 } else { 0 }
+    }
 }
 
 impl Stream {
@@ -60,6 +98,38 @@ impl Stream {
             over: false,
             given: panel,
             refused: true,
+        }
+    }
+
+    // The panel so far; the one that was handed in, where it was refused.
+    pub fn panel(self) -> Panel
+        ensures { λ r. ⌜ r ≡ panelIn self ⌝ }
+    {
+        if self.refused {
+            return self.given;
+        }
+        let totals = self.totals;
+        totals.panel
+    }
+
+    // The number of the record that comes next, counted from 1.
+    pub fn number(self) -> u64
+        ensures { λ r. ⌜ r ≡ numberIn self ⌝ }
+    {
+        let totals = self.totals;
+        raise(totals.records)
+    }
+
+    // The record that the bytes waiting and the part make whole.
+    pub fn front(self, part: &[u8]) -> Front
+        ensures { λ r. ⌜ r ≡ frontOf self (now (part .entry)) ⌝ }
+    {
+        let carry = self.carry;
+        let filled = carry.wanting().fill(part);
+        let head = filled.carry;
+        Front {
+            frame: head.frame(),
+            flaw: head.flaw(),
         }
     }
 
@@ -109,19 +179,6 @@ impl Stream {
         self.rest(after, &part[at..])
     }
 
-    // The answer to a record, or 10 to each where the panel was refused.
-    fn reply(self, answer: Answer, byte: u8) -> Reply
-        ensures { λ r. ⌜ r ≡ replyOf self answer byte ⌝ }
-    {
-        if self.refused {
-            return Reply::Answered {
-                answer: Answer::Unsound,
-                byte: 0,
-            };
-        }
-        Reply::Answered { answer, byte }
-    }
-
     // No record is answered: a cut was met, or more bytes are wanted.
     fn stopped(self, taken: usize) -> Next
         ensures { λ r. ⌜ r ≡ stoppedOf self taken ⌝ }
@@ -136,8 +193,15 @@ impl Stream {
 
     // The next record alone: no more of the part is taken than it needs.
     pub fn next(self, part: &[u8]) -> Next
-        ensures { λ r. ⌜ r ≡ nextOf self (now (part .entry)) ⌝ }
+        ensures { λ r. ⌜ Replies self (now (part .entry)) r ⌝ }
     {
+        if self.refused {
+            return Next {
+                stream: self,
+                taken: 0,
+                reply: Reply::Refused,
+            };
+        }
         if self.over {
             return self.stopped(0);
         }
@@ -157,7 +221,10 @@ impl Stream {
         Next {
             stream: self.rest(totals.count(r), &bytes[..0]),
             taken,
-            reply: self.reply(answer, r.byte),
+            reply: Reply::Answered {
+                answer,
+                byte: r.byte,
+            },
         }
     }
 
@@ -193,7 +260,7 @@ impl Stream {
 impl Panel {
     // A whole log.
     pub fn run(self, log: &[u8]) -> Run
-        ensures { λ r. ⌜ r ≡ runOf self (now (log .entry)) ⌝ }
+        ensures { λ r. ⌜ Runs self (now (log .entry)) r ⌝ }
     {
         Stream::start(self).feed(log).end()
     }

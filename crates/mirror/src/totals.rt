@@ -1,8 +1,9 @@
 // What a run has come to, and the loop over the records of a log.
 ghost use mathlib.Core.Path.{_≡_};
 ghost use lib.ListN.{replicate};
-ghost use Rattle.mirror.specs.Run.{raised, tallied, started, counted, consumedOf};
+ghost use Rattle.mirror.specs.Run.{tallied, started, counted, consumedOf};
 use crate::answer::Answer;
+use crate::count::raise;
 use crate::live::Live;
 use crate::panel::Panel;
 use crate::part::added;
@@ -23,13 +24,6 @@ pub struct Consumed {
     pub at: usize,
 }
 
-// One more. A count stays at its greatest number, which no real log reaches.
-pub fn raise(n: u64) -> u64
-    ensures { λ r. ⌜ r ≡ raised n ⌝ }
-{
-    if n < u64::MAX { n + 1 } else { n }
-}
-
 // The count of an answer, raised.
 fn tally(counts: &mut [u64; 8], answer: Answer)
     ensures { λ _. ⌜ now (counts .exit) ≡ tallied (now (counts .entry)) answer ⌝ }
@@ -42,7 +36,7 @@ fn tally(counts: &mut [u64; 8], answer: Answer)
 
 impl Totals {
     // Nothing is read yet.
-    pub fn start(panel: Panel) -> Totals
+    pub(crate) fn start(panel: Panel) -> Totals
         ensures { λ r. ⌜ r ≡ started panel ⌝ }
     {
         Totals {
@@ -53,7 +47,7 @@ impl Totals {
     }
 
     // One record more, answered so.
-    pub fn count(self, r: Recorded) -> Totals
+    pub(crate) fn count(self, r: Recorded) -> Totals
         ensures { λ t. ⌜ t ≡ counted self r ⌝ }
     {
         let panel = r.panel;
@@ -68,7 +62,7 @@ impl Totals {
     }
 
     // Every whole record at the front of the log, one after the other.
-    pub fn consume(self, log: &[u8]) -> Consumed
+    pub(crate) fn consume(self, log: &[u8]) -> Consumed
         ensures { λ r. ⌜ r ≡ consumedOf self (now (log .entry)) ⌝ }
     {
         let panel = self.panel;

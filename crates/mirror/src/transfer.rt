@@ -32,7 +32,7 @@ impl Live {
         }
         let m = self.modes;
         if m.eight {
-            return self.busy <= time;
+            return self.free(time);
         }
         if self.waits < 2 {
             return false;
@@ -94,7 +94,7 @@ impl Live {
     {
         if rw {
             if rs {
-                if self.busy <= time {
+                if self.free(time) {
                     let r = self.registers();
                     let b = r.here(display, pattern);
                     return self.done(r.read(), time, times.short, b, 14);
@@ -120,7 +120,7 @@ impl Live {
     {
         if rw {
             if rs {
-                if self.busy <= time {
+                if self.free(time) {
                     let r = self.registers();
                     return self.offer(time, rs, rw, r.here(display, pattern));
                 }
@@ -128,7 +128,7 @@ impl Live {
             }
             return self.offer(time, rs, rw, self.status(time));
         }
-        if self.busy <= time {
+        if self.free(time) {
             return self.wait(time, rs, rw, bus / 16, 0);
         }
         self.miss(time, rs, rw)
@@ -199,7 +199,7 @@ impl Live {
             Frame::Cut => self.refuse(Answer::Cut, 0),
             Frame::Bad(size) => self.refuse(Answer::Bad, size),
             Frame::Reset { time } => {
-                if time < self.last {
+                if self.back(time) {
                     self.refuse(Answer::Back, 12)
                 } else {
                     let next = Registers::fresh(display, pattern);
@@ -212,10 +212,10 @@ impl Live {
                 rw,
                 data: bus,
             } => {
-                if self.last <= time {
-                    self.transfer(times, time, rs, rw, bus, display, pattern)
-                } else {
+                if self.back(time) {
                     self.refuse(Answer::Back, 14)
+                } else {
+                    self.transfer(times, time, rs, rw, bus, display, pattern)
                 }
             }
         }
@@ -224,7 +224,7 @@ impl Live {
 
 impl Panel {
     // One record, of a panel that is known to be sound: taken apart, one turn, and put together.
-    pub fn turned(self, log: &[u8]) -> Recorded
+    pub(crate) fn turned(self, log: &[u8]) -> Recorded
         ensures { λ r. ⌜ r ≡ answered (frameOf (now (log .entry))) self ⌝ }
     {
         let times = self.times;

@@ -2,13 +2,15 @@ use denote.Ref.{now}
 use mathlib.Core.Path.{_∙_}
 use mathlib.Core.List.{[]}
 use lib.Dec.{leb}
-use borrow.Author.Tests.{le-leb, lt-leb}
 use Rattle.mirror.specs.Way.{Way, firstOf}
 use Rattle.mirror.specs.Live.{panelOf}
 use Rattle.mirror.specs.RecordLaws.{went-as, held-as, read-as}
 use borrow.Author.Needs.{needs}
 use Rattle.mirror.proofs.live.Live.first.Statement.{statement}
 use Rattle.mirror.proofs.live.Live.first.Tie as tie
+
+free-requires : tie.Need-free-requires
+free-requires c κs = search needs
 
 registers-requires : tie.Need-registers-requires
 registers-requires c κs = search needs
@@ -25,7 +27,7 @@ returns c t byte =
     let q = panelOf t (a .self) (now (a .display)) (now (a .pattern)) in
     let w = firstOf (leb (a .self .busy) (a .time)) (a .rs) (a .«rw») in
     c .offer .ensures _ _ _ ∙ held-as _ _ _ q _ _ (read-as _ _ _ _ _ (c .before .here .ensures) (c .before .before .registers .ensures))
-    ∙ went-as _ _ _ _ _ q Way.HoldRead w (rw (c .before .before .before .before .before .before .if1 .taken, c .before .before .before .before .before .if2 .taken, le-leb _ _ (c .before .before .before .if3 .taken)))
+    ∙ went-as _ _ _ _ _ q Way.HoldRead w (rw (c .before .before .before .before .before .before .if1 .taken, c .before .before .before .before .before .if2 .taken, ← c .before .before .before .before .free .ensures, c .before .before .before .if3 .taken))
 
 miss-requires : tie.Need-miss-requires
 miss-requires c κs = search needs
@@ -35,7 +37,7 @@ returns-2 c t byte =
     let a = c .before .before .before .before .before .args in
     let q = panelOf t (a .self) (now (a .display)) (now (a .pattern)) in
     let w = firstOf (leb (a .self .busy) (a .time)) (a .rs) (a .«rw») in
-    c .miss .ensures _ _ _ ∙ went-as _ _ _ _ _ q Way.Missed w (rw (c .before .before .before .before .if1 .taken, c .before .before .before .if2 .taken, lt-leb _ _ (c .before .if3 .left)))
+    c .miss .ensures _ _ _ ∙ went-as _ _ _ _ _ q Way.Missed w (rw (c .before .before .before .before .if1 .taken, c .before .before .before .if2 .taken, ← c .before .before .free .ensures, c .before .if3 .left))
 
 status-requires : tie.Need-status-requires
 status-requires c κs = search needs
@@ -51,6 +53,9 @@ returns-3 c t byte =
     c .offer2 .ensures _ _ _ ∙ held-as _ _ _ q _ _ (c .before .status .ensures t [] [])
     ∙ went-as _ _ _ _ _ q Way.HoldStatus w (rw (c .before .before .before .if1 .taken, c .before .before .if2 .left))
 
+free-requires-2 : tie.Need-free-requires-2
+free-requires-2 c κs = search needs
+
 wait-requires : tie.Need-wait-requires
 wait-requires c κs = search needs
 
@@ -59,7 +64,7 @@ returns-4 c t byte =
     let a = c .before .before .before .before .args in
     let q = panelOf t (a .self) (now (a .display)) (now (a .pattern)) in
     let w = firstOf (leb (a .self .busy) (a .time)) (a .rs) (a .«rw») in
-    c .wait .ensures _ _ _ ∙ went-as _ _ _ _ _ q Way.HoldWrite w (rw (c .before .before .before .if1 .left, le-leb _ _ (c .before .if4 .taken)))
+    c .wait .ensures _ _ _ ∙ went-as _ _ _ _ _ q Way.HoldWrite w (rw (c .before .before .before .if1 .left, ← c .before .before .free2 .ensures, c .before .if4 .taken))
 
 miss-requires-2 : tie.Need-miss-requires-2
 miss-requires-2 c κs = search needs
@@ -69,12 +74,13 @@ returns-5 c t byte =
     let a = c .before .before .before .before .args in
     let q = panelOf t (a .self) (now (a .display)) (now (a .pattern)) in
     let w = firstOf (leb (a .self .busy) (a .time)) (a .rs) (a .«rw») in
-    c .miss2 .ensures _ _ _ ∙ went-as _ _ _ _ _ q Way.Missed w (rw (c .before .before .before .if1 .left, lt-leb _ _ (c .before .if4 .left)))
+    c .miss2 .ensures _ _ _ ∙ went-as _ _ _ _ _ q Way.Missed w (rw (c .before .before .before .if1 .left, ← c .before .before .free2 .ensures, c .before .if4 .left))
 
 pub first-spec : {M : Type 1} → statement M
 first-spec =
     tie.close
     (tie.spec
+    free-requires
     registers-requires
     here-requires
     offer-requires
@@ -84,6 +90,7 @@ first-spec =
     status-requires
     offer-requires-2
     returns-3
+    free-requires-2
     wait-requires
     returns-4
     miss-requires-2

@@ -2,7 +2,6 @@ use mathlib.Core.Path.{ap, _∙_}
 use native.Mathlib.Omega.{arith}
 use Rattle.chip.specs.Address.{numberOf}
 use Rattle.chip.specs.StepLaws.{number-small}
-use borrow.Author.Tests.{le-leb, lt-leb}
 use Rattle.mirror.specs.Flat.{addressOf}
 use borrow.Author.Needs.{needs}
 use Rattle.mirror.proofs.live.Live.status.Statement.{statement}
@@ -14,16 +13,19 @@ address-requires c κs = search needs
 number-requires : tie.Need-number-requires
 number-requires c κs = search needs
 
+free-requires : tie.Need-free-requires
+free-requires c κs = search needs
+
 add-result : tie.Need-add-result
 add-result c =
     let k = c .before .before .before .before .args .self in
     omega (arith, c .before .before .number .ensures ∙ ap numberOf (c .before .before .before .address .ensures), number-small (addressOf (k .patterned) (k .place)))
 
 returns : tie.Need-returns
-returns c t d p = rw (c .before .before .number .ensures, c .before .before .before .address .ensures, le-leb _ _ (c .if1 .taken))
+returns c t d p = rw (c .before .before .number .ensures, c .before .before .before .address .ensures, ← c .before .free .ensures, c .if1 .taken)
 
 returns-2 : tie.Need-returns-2
-returns-2 c t d p = rw (c .before .before .number .ensures, c .before .before .before .address .ensures, lt-leb _ _ (c .if1 .left))
+returns-2 c t d p = rw (c .before .before .number .ensures, c .before .before .before .address .ensures, ← c .before .free .ensures, c .if1 .left)
 
 pub status-spec : {M : Type 1} → statement M
-status-spec = tie.close (tie.spec address-requires number-requires add-result returns returns-2)
+status-spec = tie.close (tie.spec address-requires number-requires free-requires add-result returns returns-2)

@@ -1,7 +1,7 @@
 use denote.Ref.{now}
 use mathlib.Core.Path.{refl, sym, ap, _∙_}
 use borrow.Author.Tests.{ne-eqb}
-use Rattle.mirror.specs.Way.{joinedOf}
+use Rattle.mirror.specs.Words.{joinedOf}
 use Rattle.mirror.specs.Live.{halfFrom, halfOf, panelOf}
 use Rattle.mirror.specs.ActsLaws.{finished, rested, begun, ended}
 use borrow.Author.Needs.{needs}

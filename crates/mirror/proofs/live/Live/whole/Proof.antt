@@ -1,13 +1,15 @@
 use denote.Ref.{now}
 use mathlib.Core.Path.{_∙_}
 use mathlib.Core.List.{[]}
-use borrow.Author.Tests.{le-leb, lt-leb}
 use Rattle.chip.specs.Step.{passed}
 use Rattle.mirror.specs.Live.{panelOf}
 use Rattle.mirror.specs.RecordLaws.{shown-as, done-as, stepped-as, read-as}
 use borrow.Author.Needs.{needs}
 use Rattle.mirror.proofs.live.Live.whole.Statement.{statement}
 use Rattle.mirror.proofs.live.Live.whole.Tie as tie
+
+free-requires : tie.Need-free-requires
+free-requires c κs = search needs
 
 registers-requires : tie.Need-registers-requires
 registers-requires c κs = search needs
@@ -25,7 +27,7 @@ returns : tie.Need-returns
 returns c bus byte =
     let a = c .before .before .before .before .before .before .before .before .args in
     let q = panelOf (a .times) (a .self) (now (a .display)) (now (a .pattern)) in
-    rw (c .before .before .before .before .before .before .before .if1 .taken, c .before .before .before .before .before .before .if2 .taken, le-leb _ _ (c .before .before .before .before .if3 .taken))
+    rw (c .before .before .before .before .before .before .before .if1 .taken, c .before .before .before .before .before .before .if2 .taken, ← c .before .before .before .before .before .free .ensures, c .before .before .before .before .if3 .taken)
     (c .done .ensures _ _ _ ∙ done-as _ _ _ _ q _ _ _ (stepped-as passed _ _ _ _ _ (c .before .read .ensures _ _) (c .before .before .before .registers .ensures))
     (read-as _ _ _ _ _ (c .before .before .here .ensures) (c .before .before .before .registers .ensures)))
 
@@ -33,7 +35,7 @@ pass-requires : tie.Need-pass-requires
 pass-requires c κs = search needs
 
 returns-2 : tie.Need-returns-2
-returns-2 c bus byte = rw (c .before .before .before .before .if1 .taken, c .before .before .before .if2 .taken, lt-leb _ _ (c .before .if3 .left)) (c .pass .ensures _ _ _)
+returns-2 c bus byte = rw (c .before .before .before .before .if1 .taken, c .before .before .before .if2 .taken, ← c .before .before .free .ensures, c .before .if3 .left) (c .pass .ensures _ _ _)
 
 status-requires : tie.Need-status-requires
 status-requires c κs = search needs
@@ -54,6 +56,7 @@ pub whole-spec : {M : Type 1} → statement M
 whole-spec =
     tie.close
     (tie.spec
+    free-requires
     registers-requires
     here-requires
     read-requires

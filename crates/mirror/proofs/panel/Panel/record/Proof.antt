@@ -1,6 +1,6 @@
 use mathlib.Core.Path.{sym, _∙_}
 use borrow.Author.Tests.{not-true, not-false}
-use Rattle.mirror.specs.RecordLaws.{answered-sound, refused-unsound}
+use Rattle.mirror.specs.TableLaws.{answered-sound, refused-unsound}
 use Rattle.mirror.specs.TableLaws.{records}
 use borrow.Author.Needs.{needs}
 use Rattle.mirror.proofs.panel.Panel.record.Statement.{statement}

@@ -1,16 +1,19 @@
 use mathlib.Core.Path.{refl}
 use denote.Ref.{now}
 use Rattle.mirror.specs.StreamLaws.{has-fed}
-use Rattle.mirror.specs.NextLaws.{stopped-over, next-stops, next-goes}
+use Rattle.mirror.specs.NextLaws.{next-refused, stopped-over, next-stops, next-goes, replies}
 use borrow.Author.Needs.{needs}
 use Rattle.mirror.proofs.stream.Stream.next.Statement.{statement}
 use Rattle.mirror.proofs.stream.Stream.next.Tie as tie
 
+returns : tie.Need-returns
+returns c = replies _ _ _ (next-refused _ _ (c .if1 .taken))
+
 stopped-requires : tie.Need-stopped-requires
 stopped-requires c κs = search needs
 
-returns : tie.Need-returns
-returns c = rw (c .stopped .ensures) (stopped-over _ _ (c .before .if1 .taken))
+returns-2 : tie.Need-returns-2
+returns-2 c = replies _ _ _ (rw (c .stopped .ensures) (stopped-over _ _ (c .before .before .if1 .left) (c .before .if2 .taken)))
 
 wanting-requires : tie.Need-wanting-requires
 wanting-requires c κs = search needs
@@ -42,12 +45,13 @@ rest-requires c κs = search needs
 stopped-requires-2 : tie.Need-stopped-requires-2
 stopped-requires-2 c κs = search needs
 
-returns-2 : tie.Need-returns-2
-returns-2 c =
-    let a = c .before .before .before .before .before .before .before .before .before .before .before .before .before .before .before .before .before .args in
+returns-3 : tie.Need-returns-3
+returns-3 c =
+    let a = c .before .before .before .before .before .before .before .before .before .before .before .before .before .before .before .before .before .before .args in
     let f = has-fed (a .self) (now (a .part)) (c .before .before .before .before .before .before .before .before .before .before .before .before .wanting .result) (c .before .before .before .before .before .before .before .before .before .before .before .fill .result) (c .before .before .before .before .before .before .before .before .carried .result) (c .before .before .before .before .before .before .before .before .before .before .before .before .wanting .ensures) (c .before .before .before .before .before .before .before .before .before .before .before .fill .ensures) (c .before .before .before .before .before .before .before .before .carried .ensures) in
-    rw (c .stopped2 .ensures)
-    (next-stops f (c .before .before .before .before .before .before .before .before .before .before .before .before .before .before .before .if1 .left) _ (c .before .before .before .before .before .turned .ensures) (c .before .before .before .if2 .taken) _ (c .before .rest .ensures) _ refl)
+    replies _ _ _
+    (rw (c .stopped2 .ensures)
+    (next-stops f (record { heard = c .before .before .before .before .before .before .before .before .before .before .before .before .before .before .before .before .if1 .left; unended = c .before .before .before .before .before .before .before .before .before .before .before .before .before .before .before .if2 .left }) _ (c .before .before .before .before .before .turned .ensures) (c .before .before .before .if3 .taken) _ (c .before .rest .ensures) _ refl))
 
 count-requires : tie.Need-count-requires
 count-requires c κs = search needs
@@ -61,22 +65,21 @@ slice-aggregate-rest-2 c = search needs
 rest-requires-2 : tie.Need-rest-requires-2
 rest-requires-2 c κs = search needs
 
-reply-requires : tie.Need-reply-requires
-reply-requires c κs = search needs
-
-returns-3 : tie.Need-returns-3
-returns-3 c =
+returns-4 : tie.Need-returns-4
+returns-4 c =
     let a = c .before .before .before .before .before .before .before .before .before .before .before .before .before .before .before .before .before .before .args in
-    let f = has-fed (a .self) (now (a .part)) (c .before .before .before .before .before .before .before .before .before .before .before .before .before .wanting .result) (c .before .before .before .before .before .before .before .before .before .before .before .before .fill .result) (c .before .before .before .before .before .before .before .before .before .carried .result) (c .before .before .before .before .before .before .before .before .before .before .before .before .before .wanting .ensures) (c .before .before .before .before .before .before .before .before .before .before .before .before .fill .ensures) (c .before .before .before .before .before .before .before .before .before .carried .ensures) in
-    rw (c .reply .ensures, c .before .rest2 .ensures, c .before .before .before .count .ensures)
-    (next-goes f (c .before .before .before .before .before .before .before .before .before .before .before .before .before .before .before .before .if1 .left) _ (c .before .before .before .before .before .before .turned .ensures) (c .before .before .before .before .if2 .left))
+    let f = has-fed (a .self) (now (a .part)) (c .before .before .before .before .before .before .before .before .before .before .before .before .wanting .result) (c .before .before .before .before .before .before .before .before .before .before .before .fill .result) (c .before .before .before .before .before .before .before .before .carried .result) (c .before .before .before .before .before .before .before .before .before .before .before .before .wanting .ensures) (c .before .before .before .before .before .before .before .before .before .before .before .fill .ensures) (c .before .before .before .before .before .before .before .before .carried .ensures) in
+    replies _ _ _
+    (rw (c .rest2 .ensures, c .before .before .count .ensures)
+    (next-goes f (record { heard = c .before .before .before .before .before .before .before .before .before .before .before .before .before .before .before .before .if1 .left; unended = c .before .before .before .before .before .before .before .before .before .before .before .before .before .before .before .if2 .left }) _ (c .before .before .before .before .before .turned .ensures) (c .before .before .before .if3 .left)))
 
 pub next-spec : {M : Type 1} → statement M
 next-spec =
     tie.close
     (tie.spec
-    stopped-requires
     returns
+    stopped-requires
+    returns-2
     wanting-requires
     fill-requires
     carried-requires
@@ -87,10 +90,9 @@ next-spec =
     slice-aggregate-rest
     rest-requires
     stopped-requires-2
-    returns-2
+    returns-3
     count-requires
     array-share-prefix-bytes-3
     slice-aggregate-rest-2
     rest-requires-2
-    reply-requires
-    returns-3)
+    returns-4)

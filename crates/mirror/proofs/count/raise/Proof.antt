@@ -1,7 +1,7 @@
 use borrow.Author.Tests.{le-ltb, lt-ltb}
 use borrow.Author.Needs.{needs}
-use Rattle.mirror.proofs.totals.raise.Statement.{statement}
-use Rattle.mirror.proofs.totals.raise.Tie as tie
+use Rattle.mirror.proofs.count.raise.Statement.{statement}
+use Rattle.mirror.proofs.count.raise.Tie as tie
 
 add-result : tie.Need-add-result
 add-result c = search needs
