@@ -1,13 +1,14 @@
-//! The rules' own cases A to M, the report's example and the sample night, and
-//! the four-record example.
+//! The rules' own cases A to M, the examples of the report and of the wall, the
+//! sample night, and the four-record example.
 
 use crate::arguments;
 use crate::chip::{Counter, DisplayAddress, PatternAddress, Sheet};
 use crate::log;
 use crate::panel::{self, Panel, Run, Times};
-use crate::picture::{self, Painting};
+use crate::picture::{self, Painting, FONT_SIZE};
 use crate::prints;
-use crate::report;
+use crate::report::page;
+use crate::wall::{self, Asked, Form};
 
 pub struct Case {
     pub name: &'static str,
@@ -117,9 +118,9 @@ fn reports() -> Vec<Case> {
         (1_741, DATA, 0x57), (1_700, STATUS, 0),
     ]);
     vec![
-        case("the report's example", example, |_, _, log| report::print(log) == REPORT_EXAMPLE),
+        case("the report's example", example, |_, _, log| page::print(log) == REPORT_EXAMPLE),
         case("the sample night", NIGHT.to_vec(), |_, _, log| {
-            let print = report::print(log);
+            let print = page::print(log);
             let answers: Vec<_> = print.lines().filter_map(|line| line.split('\t').nth(4)).collect();
             let counted = ["ignored", "torn", "back", "bad", "none"]
                 .map(|answer| answers.iter().filter(|&&other| other == answer).count());
@@ -140,9 +141,13 @@ fn pictures_and_prints() -> Vec<Case> {
         case("M", Vec::new(), |panel, run, _| {
             run.counts == [0; 8] && !run.cut && *panel == Panel::fresh(Times::USUAL)
         }),
+        case("the wall's example", at_times(&[(0, INSTRUCTION, 0x0E), (40, DATA, 0x57)]), |_, _, log| {
+            let asked = Asked { form: Form::Ascii, dark: false, at: None, font: None };
+            wall::print(&asked, &wall_font(), log) == WALL_EXAMPLE.as_bytes()
+        }),
         case("four records, glazomir", four.clone(), |_, _, log| prints::glazomir(log) == FOUR_GLAZOMIR),
         case("four records, trace", four, |_, _, log| {
-            let lent = arguments::read(&[]).expect("no words");
+            let lent = arguments::trace(&[]).expect("no words");
             prints::trace(&lent, log) == four_trace()
         }),
     ]
@@ -153,6 +158,29 @@ fn painted(panel: &Panel) -> (Painting, Vec<u8>) {
     let painting = picture::paint(panel, &picture::trial_font(), false, &mut frame);
     (painting, frame)
 }
+
+/// The font of the wall's example: blank but for the rows of 57h.
+pub fn wall_font() -> Vec<u8> {
+    let mut font = vec![0; FONT_SIZE];
+    font[8 * (0x57 - 16)..][..8].copy_from_slice(&[0x11, 0x11, 0x11, 0x15, 0x15, 0x1B, 0x11, 0x00]);
+    font
+}
+
+const WALL_EXAMPLE: &str = "\
++--------------------------------------------------------------------------------+
+|#...#...........................................................................|
+|#...#...........................................................................|
+|#...#...........................................................................|
+|#.#.#...........................................................................|
+|#.#.#...........................................................................|
+|##.##...........................................................................|
+|#...#...........................................................................|
+|.....#####......................................................................|
++--------------------------------------------------------------------------------+
+text |W               |
+codes 57 20 20 20 20 20 20 20 20 20 20 20 20 20 20 20
+cursor 1
+";
 
 const REPORT_EXAMPLE: &str = "\
 record	second	time	clock	answer	what	byte	meaning
@@ -215,6 +243,7 @@ const FOUR_TRACE: &str = "\
 2 01
 records 4
 cut 0
+counts 2 0 1 1 0 0 0 0
 sound 1
 display 57 20 20 20 20 20 20 20 20 20 20 20 20 20 20 20
 pattern 00 00 00 00 00 00 00 00 00 00 00 00 00 00 00 00 00 00 00 00 00 00 00 00 00 00 00 00 00 00 00 00

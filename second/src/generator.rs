@@ -50,12 +50,15 @@ impl Trial {
 pub fn trial(seed: u64, turn: u64) -> Trial {
     let mut random = Random::new(seed, turn);
     let lending = lend::lend(&mut random, turn);
+    let is_refused = lending.start.is_none();
     let (panel, target) = match lending.start {
         Some(panel) => (panel, length(&mut random)),
         None => (Panel::fresh(Times::USUAL), random.below(30) as usize),
     };
     let mut log = sender::send_log(&mut random, panel, target);
-    if turn % 5 == 3 {
+    if is_refused {
+        damage_of_a_refused_run(&mut random, &mut log);
+    } else if turn % 5 == 3 {
         damage(&mut random, &mut log, turn / 5 % 25);
     }
     Trial { groups: lending.groups, log }
@@ -82,19 +85,6 @@ pub fn short_log(seed: u64, turn: u64) -> Vec<u8> {
     let rest = sender::send_log(&mut random, panel, 6);
     let few = log::records(&rest).0.into_iter().take(6);
     first.into_iter().chain(few.flatten().copied()).collect()
-}
-
-/// The logs of a turn that go through the report. A start costs more than the
-/// records do, so there are few logs, and the nights among them are long.
-pub fn for_the_report(seed: u64, turn: u64, trial: &Trial) -> Vec<Vec<u8>> {
-    let mut logs = Vec::new();
-    if turn % 7 == 5 {
-        logs.push(night(seed, turn));
-    }
-    if turn % 11 == 3 {
-        logs.push(trial.log.clone());
-    }
-    logs
 }
 
 /// A log for the report: nights of a box in haste.
@@ -142,6 +132,20 @@ pub fn long_log(seed: u64) -> Vec<u8> {
     sender::send_log(&mut random, Panel::fresh(Times::USUAL), 20_000)
 }
 
+/// Only what the lengths say is looked at: the log is cut, has nothing, or is
+/// left as it is.
+fn damage_of_a_refused_run(random: &mut Random, log: &mut Vec<u8>) {
+    match random.below(10) {
+        0 | 1 => log.clear(),
+        2 => *log = vec![12],
+        3..=6 => {
+            let way = random.below(10);
+            log.extend(cut_tail(random, way));
+        }
+        _ => {}
+    }
+}
+
 fn damage(random: &mut Random, log: &mut Vec<u8>, way: u64) {
     let size = log.len() as u64;
     // Late in the log, for most damage ends the reading.
@@ -160,7 +164,7 @@ fn damage(random: &mut Random, log: &mut Vec<u8>, way: u64) {
 }
 
 /// Every sort of cut, each at the end of a log.
-fn cut_tail(random: &mut Random, way: u64) -> Vec<u8> {
+pub fn cut_tail(random: &mut Random, way: u64) -> Vec<u8> {
     let mut tail = match way {
         0 => return vec![random.byte()],
         1 => vec![0, 0],

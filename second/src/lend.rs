@@ -29,11 +29,13 @@ pub struct Lending {
     pub start: Option<Panel>,
 }
 
-fn text(words: &str) -> Group {
+/// A group, split at spaces.
+pub fn text(words: &str) -> Group {
     words.split(' ').map(|word| Word::Text(word.to_string())).collect()
 }
 
-fn files(word: &str, contents: Vec<Vec<u8>>) -> Group {
+/// A word and the files that follow it.
+pub fn files(word: &str, contents: Vec<Vec<u8>>) -> Group {
     let mut group = text(word);
     group.extend(contents.into_iter().map(Word::File));
     group
@@ -62,6 +64,9 @@ pub fn lend(random: &mut Random, turn: u64) -> Lending {
     if random.chance(15) {
         let (one, other) = frames(random);
         groups.push(files("frames", vec![one, other]));
+    }
+    if random.chance(33) {
+        groups.push(text("records"));
     }
     let first = random.below(groups.len().max(1) as u64) as usize;
     groups.rotate_left(first);
@@ -246,7 +251,7 @@ fn refused_words(random: &mut Random, turn: u64) -> Group {
     let wordings = [
         "bogus", "font", "times", "times 1 2", "times 1 2 65536", "times 1 two 3", "times 1 -2 3",
         "panel", "frame", "frame 201", "frame x", "frame 80 frame 80", "times 1 2 3 times 1 2 3",
-        "frame 99999999999999999999",
+        "records records", "frame 99999999999999999999",
     ];
     let kinds = wordings.len() as u64 + 5;
     match turn % kinds {

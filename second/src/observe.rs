@@ -1,12 +1,13 @@
-//! Watches the model run and notes which classes of the reach it meets.
+//! Watches the model run for `trace` and notes which classes of the reach it
+//! meets.
 
 use crate::arguments::Lent;
-use crate::chip::{Counter, DisplayAddress, PatternAddress, Sheet, Width};
-use crate::generator::Trial;
+use crate::chip::{Counter, Sheet, Width};
 use crate::log::{self, Message, Transfer, TIME_LIMIT};
+use crate::observe_lent;
 use crate::panel::number::*;
-use crate::panel::{self, is_status, Answer, Half, Panel, BUSY_END_LIMIT};
-use crate::picture::{self, Comparison, FONT_SIZE, FRAME_SIZE};
+use crate::panel::{is_status, Answer, Half, Panel};
+use crate::questions::Question;
 use crate::reach::Reach;
 
 /// One record with the panel on either side of it.
@@ -28,39 +29,22 @@ struct Memory {
     wrong_wait: u64,
 }
 
-/// Notes what one trial reaches; `lent` is the refusal where there is one.
-pub fn trial(reach: &mut Reach, trial: &Trial, lent: Result<&Lent, &str>) {
-    let log = &trial.log;
+/// Notes what a question to `trace` reaches; `lent` is the refusal where there
+/// is one.
+pub fn question(reach: &mut Reach, question: &Question, lent: Result<&Lent, &str>) {
+    let log = &question.trial.log;
     let lent = match lent {
         Ok(lent) => lent,
         Err(reason) => return reach.note(&format!("refused: {reason}")),
     };
-    let faults = panel::faults(&lent.panel);
-    sizes_and_times(reach, lent);
-    frames(reach, lent);
-    if trial.gives("panel") {
-        reach.note_if(trial.gives("times"), "panel and times");
-        panel_at_its_limits(reach, &lent.panel);
+    observe_lent::lent(reach, &question.trial, lent);
+    if question.trial.gives("records") {
+        observe_lent::by_records(reach, question, lent);
     }
-    for fault in &faults {
-        reach.note(&format!("unsound: {fault}"));
+    if lent.panel.is_sound() {
+        let panel = run(reach, &lent.panel, log);
+        observe_lent::painting(reach, lent, &panel);
     }
-    reach.note_if(faults.len() > 1, "unsound in two ways");
-    if !faults.is_empty() {
-        refusals(reach, lent, log);
-        return;
-    }
-    let panel = run(reach, &lent.panel, log);
-    painting(reach, lent, &panel);
-}
-
-fn refusals(reach: &mut Reach, lent: &Lent, log: &[u8]) {
-    for class in ["answer 10", "10 for a run", "10 for a painting"] {
-        reach.note(class);
-    }
-    reach.note_if(lent.font.len() != FONT_SIZE, "10 before 9 for the font");
-    reach.note_if(lent.frame_size != FRAME_SIZE, "10 before 9 for the frame");
-    reach.note_if(log::records(log).1, "10 with a cut log");
 }
 
 fn run(reach: &mut Reach, start: &Panel, log: &[u8]) -> Panel {
@@ -387,94 +371,5 @@ fn waiting_at_end(reach: &mut Reach, panel: &Panel) {
             (true, true) => "ends with a data read half",
             (false, true) => "ends with a status half",
         }),
-    }
-}
-
-fn painting(reach: &mut Reach, lent: &Lent, panel: &Panel) {
-    let sheet = &panel.sheet;
-    reach.note_if(lent.frame_size != FRAME_SIZE, "9 for the frame");
-    reach.note_if(lent.font.len() != FONT_SIZE, "9 for the font");
-    if lent.frame_size != FRAME_SIZE || lent.font.len() != FONT_SIZE {
-        return reach.note("answer 9");
-    }
-    if !sheet.d {
-        return reach.note("painted with D off");
-    }
-    reach.note("painted with D on");
-    reach.note_if(lent.font != picture::trial_font(), "lent font painted");
-    reach.note_if(sheet.c && sheet.shift != 0, "cursor at a shift");
-    reach.note_if(sheet.b && sheet.shift != 0, "blink at a shift");
-    if let (true, Counter::Pattern(PatternAddress(at))) = (sheet.c, sheet.counter) {
-        reach.note("cursor in pattern memory");
-        reach.note_if(at > 15, "cursor above 15 in pattern memory");
-    }
-    for code in sheet.display {
-        match code {
-            0x00..=0x03 => reach.note("pattern code 00h to 03h"),
-            0x04..=0x0F => reach.note("pattern code 04h to 0Fh"),
-            0x10 => reach.note("font code 10h"),
-            0xFF => reach.note("font code FFh"),
-            _ => {}
-        }
-    }
-    let [mut light, mut dark] = [[0; FRAME_SIZE]; 2];
-    picture::paint(panel, &lent.font, false, &mut light);
-    picture::paint(panel, &lent.font, true, &mut dark);
-    reach.note(if light == dark { "comparison: painted frames same" } else { "dark and light differ" });
-}
-
-fn sizes_and_times(reach: &mut Reach, lent: &Lent) {
-    match lent.font.len() {
-        0 => reach.note("font of 0"),
-        1_919 => reach.note("font of 1919"),
-        1_921 => reach.note("font of 1921"),
-        _ => {}
-    }
-    match lent.frame_size {
-        0 => reach.note("frame of 0"),
-        79 => reach.note("frame of 79"),
-        81 => reach.note("frame of 81"),
-        200 => reach.note("frame of 200"),
-        _ => {}
-    }
-    let times = [lent.panel.times.reset, lent.panel.times.long, lent.panel.times.short];
-    reach.note_if(times.contains(&0), "time of 0");
-    reach.note_if(times.contains(&65_535), "time of 65535");
-}
-
-fn panel_at_its_limits(reach: &mut Reach, panel: &Panel) {
-    if !panel.is_sound() {
-        return;
-    }
-    let sheet = &panel.sheet;
-    reach.note("panel sound");
-    reach.note_if(panel.last == TIME_LIMIT - 1, "panel sound: last time 2^48 - 1");
-    reach.note_if(panel.busy_end == BUSY_END_LIMIT - 1, "panel sound: busy end 2^48 + 65535");
-    match sheet.counter {
-        Counter::Display(DisplayAddress(15)) => reach.note("panel sound: display address 15"),
-        Counter::Pattern(PatternAddress(31)) => reach.note("panel sound: pattern address 31"),
-        _ => {}
-    }
-    reach.note_if(sheet.shift == 15, "panel sound: shift 15");
-    reach.note_if(sheet.function == 15, "panel sound: Function Set bits 15");
-    reach.note_if(sheet.pattern.contains(&31), "panel sound: pattern entry 31");
-}
-
-fn frames(reach: &mut Reach, lent: &Lent) {
-    let Some((one, other)) = &lent.frames else { return };
-    let differing: u32 = one.iter().zip(other).map(|(a, b)| (a ^ b).count_ones()).sum();
-    match (one.len() == FRAME_SIZE, other.len() == FRAME_SIZE) {
-        (false, false) => reach.note("frames: both of wrong size"),
-        (false, true) => reach.note("frames: first of wrong size"),
-        (true, false) => reach.note("frames: second of wrong size"),
-        (true, true) if differing == 0 => reach.note("frames: none differs"),
-        (true, true) if differing == 1 => reach.note("frames: one dot"),
-        (true, true) => reach.note("frames: several dots"),
-    }
-    match picture::compare(one, other) {
-        Comparison::Refused(_) => reach.note("9 for frames"),
-        Comparison::At { row: 0, column: 0 } => reach.note("frames: first dot of all"),
-        Comparison::At { row: 7, column: 79 } => reach.note("frames: last dot of all"),
-        _ => {}
     }
 }

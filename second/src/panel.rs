@@ -275,3 +275,6 @@ pub fn run(panel: &mut Panel, log: &[u8]) -> Run {
     }
     report
 }
+
+#[cfg(test)]
+mod tests;

@@ -52,7 +52,7 @@ fn is_lit(sheet: &Sheet, font: &[u8], dark: bool, row: usize, column: usize) -> 
         return false;
     }
     let position = column / 5;
-    let code = sheet.display[(position + usize::from(sheet.shift)) % 16];
+    let code = code_at(sheet, position);
     let five_dots = match code {
         0x00..=0x0F => sheet.pattern[8 * usize::from(code & 3) + row],
         _ => font[8 * usize::from(code - 16) + row],
@@ -61,6 +61,11 @@ fn is_lit(sheet: &Sheet, font: &[u8], dark: bool, row: usize, column: usize) -> 
     five_dots >> (4 - column % 5) & 1 != 0
         || at_cursor && sheet.c && row == 7
         || at_cursor && sheet.b && dark
+}
+
+/// The code that a position of the screen shows.
+pub fn code_at(sheet: &Sheet, position: usize) -> u8 {
+    sheet.display[(position + usize::from(sheet.shift)) % 16]
 }
 
 /// The cursor moves with the display, so the shift is taken off the address.
@@ -86,7 +91,7 @@ pub fn compare(one: &[u8], other: &[u8]) -> Comparison {
     Comparison::Same
 }
 
-fn dot(frame: &[u8], row: usize, column: usize) -> bool {
+pub fn dot(frame: &[u8], row: usize, column: usize) -> bool {
     frame[10 * row + column / 8] >> (7 - column % 8) & 1 != 0
 }
 
@@ -99,4 +104,139 @@ pub fn trial_font() -> Vec<u8> {
             _ => ((37 * i + 11 * (i / 8) + 5) % 256) as u8,
         })
         .collect()
+}
+
+#[cfg(test)]
+mod tests {
+    use super::*;
+    use crate::panel::Times;
+
+    /// The display on, all blank but one code at one address.
+    fn showing(code: u8, address: usize) -> Panel {
+        let mut panel = Panel::fresh(Times::USUAL);
+        panel.sheet.d = true;
+        panel.sheet.display[address] = code;
+        panel
+    }
+
+    /// A font that is blank but for one code; no turning or mirroring leaves
+    /// its glyph alike. The upper three bits are no dots.
+    fn font_with(code: u8) -> Vec<u8> {
+        let mut font = vec![0xE0; FONT_SIZE];
+        font[8 * (usize::from(code) - 16)..][..8].copy_from_slice(&GLYPH);
+        font
+    }
+
+    const GLYPH: [u8; 8] = [0x90, 0xF8, 0x14, 0x12, 0x11, 0x10, 0x00, 0x01];
+    const DOTS: [&str; 8] = ["#....", "##...", "#.#..", "#..#.", "#...#", "#....", ".....", "....#"];
+
+    /// The five columns of a position, and the number of lit dots elsewhere.
+    fn position(frame: &[u8], position: usize) -> (Vec<String>, usize) {
+        let is_lit = |row, column| dot(frame, row, column);
+        let row = |row| (0..5).map(|x| if is_lit(row, 5 * position + x) { '#' } else { '.' }).collect();
+        let elsewhere = (0..ROWS * COLUMNS)
+            .filter(|&at| is_lit(at / COLUMNS, at % COLUMNS) && at % COLUMNS / 5 != position)
+            .count();
+        ((0..ROWS).map(row).collect(), elsewhere)
+    }
+
+    #[test]
+    fn a_glyph_dot_by_dot_at_a_shift() {
+        for (code, shift, at) in [(0x10, 0, 0), (0x57, 3, 6), (0xFF, 15, 15), (0x80, 9, 2)] {
+            let mut panel = showing(code, at);
+            panel.sheet.shift = shift;
+            let mut frame = [0xA5; FRAME_SIZE];
+            assert_eq!(paint(&panel, &font_with(code), true, &mut frame), Painting::Lit(11));
+            let place = (at + 16 - usize::from(shift)) % 16;
+            assert_eq!(position(&frame, place), (DOTS.map(str::to_string).to_vec(), 0), "{code:02X}h");
+        }
+    }
+
+    #[test]
+    fn where_a_dot_lies_in_a_frame() {
+        // Position 1: columns 5 to 9, bits 2 to 0 of byte 0 and 7 and 6 of byte 1.
+        let mut frame = [0; FRAME_SIZE];
+        paint(&showing(0x57, 1), &font_with(0x57), false, &mut frame);
+        let rows: Vec<[u8; 2]> = (0..ROWS).map(|row| [frame[10 * row], frame[10 * row + 1]]).collect();
+        let expected = [
+            [0x04, 0x00], [0x06, 0x00], [0x05, 0x00], [0x04, 0x80], [0x04, 0x40], [0x04, 0x00], [0x00, 0x00], [0x00, 0x40],
+        ];
+        assert_eq!(rows, expected);
+    }
+
+    #[test]
+    fn codes_below_10h_show_the_patterns() {
+        for code in 0x00..=0x0F {
+            let mut panel = showing(code, 4);
+            let first = 8 * (usize::from(code) % 4);
+            panel.sheet.pattern[first..first + 8].copy_from_slice(&GLYPH.map(|row| row & 0x1F));
+            let mut frame = [0; FRAME_SIZE];
+            paint(&panel, &[0; FONT_SIZE], false, &mut frame);
+            assert_eq!(position(&frame, 4), (DOTS.map(str::to_string).to_vec(), 0), "{code:02X}h");
+        }
+    }
+
+    #[test]
+    fn cursor_and_blink() {
+        let [full, none] = ["#####", "....."].map(|row| vec![row.to_string(); 8]);
+        let under = [&none[..7], &full[..1]].concat();
+        for (c, b, dark, expected) in [
+            (true, false, false, &under), (true, false, true, &under), (false, true, false, &none),
+            (false, true, true, &full), (true, true, false, &under), (true, true, true, &full), (false, false, true, &none),
+        ] {
+            for (counter, place) in [
+                (Counter::Display(DisplayAddress(2)), 13), (Counter::Pattern(PatternAddress(2)), 13),
+                (Counter::Pattern(PatternAddress(22)), 1), (Counter::Display(DisplayAddress(15)), 10),
+            ] {
+                let mut panel = showing(0x20, 0);
+                (panel.sheet.c, panel.sheet.b, panel.sheet.counter, panel.sheet.shift) = (c, b, counter, 5);
+                let mut frame = [0xFF; FRAME_SIZE];
+                paint(&panel, &[0; FONT_SIZE], dark, &mut frame);
+                assert_eq!(position(&frame, place), (expected.clone(), 0), "C {c} B {b} dark {dark} {counter:?}");
+            }
+        }
+    }
+
+    #[test]
+    fn with_d_off_no_dot_is_lit() {
+        let mut panel = showing(0x57, 0);
+        (panel.sheet.d, panel.sheet.c, panel.sheet.b) = (false, true, true);
+        let mut frame = [0xFF; FRAME_SIZE];
+        assert_eq!(paint(&panel, &[0xFF; FONT_SIZE], true, &mut frame), Painting::Lit(0));
+        assert_eq!(frame, [0; FRAME_SIZE]);
+    }
+
+    #[test]
+    fn a_refused_painting_leaves_the_frame_alone() {
+        let sound = showing(0x57, 0);
+        let mut unsound = sound.clone();
+        unsound.sheet.shift = 16;
+        for (panel, font, size, number) in [
+            (&sound, 1_919, 80, SIZE), (&sound, 1_921, 80, SIZE), (&sound, 1_920, 79, SIZE), (&sound, 1_920, 81, SIZE),
+            (&sound, 1_920, 0, SIZE), (&unsound, 1_920, 80, UNSOUND), (&unsound, 0, 0, UNSOUND),
+        ] {
+            let mut frame = vec![0xA5; size];
+            assert_eq!(paint(panel, &vec![0xFF; font], true, &mut frame), Painting::Refused(number));
+            assert_eq!(frame, vec![0xA5; size]);
+        }
+    }
+
+    #[test]
+    fn the_first_dot_that_differs() {
+        let one = [0x5A; FRAME_SIZE];
+        assert_eq!(compare(&one, &one), Comparison::Same);
+        for (byte, bit, row, column) in [(0, 7, 0, 0), (9, 0, 0, 79), (10, 7, 1, 0), (34, 4, 3, 35), (79, 0, 7, 79)] {
+            let mut other = one;
+            other[byte] ^= 1 << bit;
+            assert_eq!(compare(&one, &other), Comparison::At { row, column });
+            other[79] ^= 1;
+            other[byte] |= 1 << bit;
+            let mut none = one;
+            none[byte] &= !(1 << bit);
+            assert_eq!(compare(&other, &none), Comparison::At { row, column }, "the first of two");
+        }
+        for sizes in [(79, 80), (80, 81), (0, 0)] {
+            assert_eq!(compare(&vec![0; sizes.0], &vec![0; sizes.1]), Comparison::Refused(SIZE));
+        }
+    }
 }

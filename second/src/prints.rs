@@ -2,7 +2,7 @@
 
 use crate::arguments::Lent;
 use crate::chip::{Counter, Width};
-use crate::panel::number::UNSOUND;
+use crate::panel::number::{CUT, UNSOUND};
 use crate::panel::{self, Half, Panel, Run, Times};
 use crate::picture::{self, Comparison, Painting};
 use std::fmt::Write;
@@ -33,13 +33,26 @@ pub fn trace(lent: &Lent, log: &[u8]) -> String {
     let run = panel::run(&mut panel, log);
     let mut print = String::new();
     answers(&mut print, &run);
+    if run.cut {
+        line(&mut print, format_args!("refused {CUT}"));
+    }
     line(&mut print, format_args!("records {}", run.records));
     line(&mut print, format_args!("cut {}", u8::from(run.cut)));
+    line(&mut print, format_args!("counts {}", run.counts.map(|count| count.to_string()).join(" ")));
     line(&mut print, format_args!("sound {}", u8::from(panel.is_sound())));
     sheet(&mut print, &panel);
     line(&mut print, format_args!("busy {} last {}", panel.busy_end, panel.last));
     line(&mut print, format_args!("half {}", half(panel.half)));
     pictures(&mut print, lent, &panel);
+    print
+}
+
+/// What `trace` prints where the reading breaks off after these bytes.
+pub fn trace_broken_off(lent: &Lent, log: &[u8]) -> String {
+    let mut print = String::new();
+    if !log.is_empty() {
+        answers(&mut print, &panel::run(&mut lent.panel.clone(), log));
+    }
     print
 }
 
@@ -109,7 +122,80 @@ pub fn hex(bytes: &[u8]) -> String {
     bytes.iter().map(|byte| format!("{byte:02X}")).collect()
 }
 
-fn spaced(bytes: &[u8]) -> String {
+/// Upper-case hex with a space between two bytes.
+pub fn spaced(bytes: &[u8]) -> String {
     let words: Vec<String> = bytes.iter().map(|byte| format!("{byte:02X}")).collect();
     words.join(" ")
+}
+
+#[cfg(test)]
+mod tests {
+    use super::*;
+    use crate::arguments;
+    use crate::log;
+
+    /// The lines of `trace` for a log, without the panel and the pictures.
+    fn lines(lent: &Lent, log: &[u8]) -> Vec<String> {
+        let print = trace(lent, log);
+        print.lines().take_while(|line| !line.starts_with("display")).map(str::to_string).collect()
+    }
+
+    fn usual() -> Lent {
+        arguments::trace(&[]).ok().expect("no words")
+    }
+
+    fn unsound() -> Lent {
+        let mut lent = usual();
+        lent.panel.sheet.shift = 16;
+        lent
+    }
+
+    #[test]
+    fn a_cut_run_says_so_after_its_records() {
+        let log = [log::write_transfer(0, 1, 0x41), vec![12]].concat();
+        let expected = ["0 00", "refused 8", "records 1", "cut 1", "counts 1 0 0 0 0 0 0 0", "sound 1"];
+        assert_eq!(lines(&usual(), &log), expected);
+        assert_eq!(lines(&usual(), &[12]), ["refused 8", "records 0", "cut 1", "counts 0 0 0 0 0 0 0 0", "sound 1"]);
+        assert_eq!(lines(&usual(), &[]), ["records 0", "cut 0", "counts 0 0 0 0 0 0 0 0", "sound 1"]);
+    }
+
+    #[test]
+    fn a_refused_run_is_not_cut_and_counts_nothing() {
+        let log = [log::write_transfer(0, 1, 0x41), log::write_record(9, &[]), vec![12]].concat();
+        for (log, records) in [(&log[..], 2), (&log[..18], 2), (&log[..15], 1), (&[12], 0), (&[], 0)] {
+            let expected = ["refused 10", &format!("records {records}"), "cut 0", "counts 0 0 0 0 0 0 0 0", "sound 0"];
+            assert_eq!(lines(&unsound(), log), expected);
+        }
+    }
+
+    #[test]
+    fn refused_pictures() {
+        let print = trace(&Lent { frame_size: 1, ..unsound() }, &[]);
+        assert!(print.ends_with("\nframe 0 refused 10 A5\nframe 1 refused 10 A5\ndiffer refused 9\n"));
+        let print = trace(&Lent { frame_size: 0, ..usual() }, &[]);
+        assert!(print.ends_with("\nframe 0 refused 9\nframe 1 refused 9\ndiffer refused 9\n"));
+    }
+
+    #[test]
+    fn reading_that_breaks_off_leaves_the_records_lines() {
+        let log = [log::write_transfer(0, 1, 0x41), vec![12]].concat();
+        assert_eq!(trace_broken_off(&usual(), &log), "0 00\n");
+        assert_eq!(trace_broken_off(&usual(), &[]), "");
+    }
+
+    #[test]
+    fn a_panel_in_pattern_memory_with_a_half() {
+        let log = [
+            log::write_transfer(0, 0, 0x2B), log::write_transfer(40, 0, 0x50), log::write_transfer(41, 0, 0xE0),
+            log::write_transfer(81, 1, 0xD0),
+        ]
+        .concat();
+        let print = trace(&usual(), &log);
+        for line in
+            ["counter pattern 1E", "width 4 function B", "half 1 0 0 D", "busy 81 last 81", "counts 2 2 0 0 0 0 0 0"]
+        {
+            assert!(print.contains(&format!("\n{line}\n")), "{line}");
+        }
+        assert!(glazomir(&log).contains("\npattern 1E\ncodes 20 20"));
+    }
 }

@@ -67,7 +67,7 @@ const PICTURES: [&str; 13] = [
     "lent font painted", "comparison: painted frames same",
 ];
 
-const LENT: [&str; 35] = [
+const LENT: [&str; 38] = [
     "9 for the font", "9 for the frame", "9 for frames", "10 for a run", "10 for a painting",
     "10 before 9 for the font", "10 before 9 for the frame", "10 with a cut log", "font of 0",
     "font of 1919", "font of 1921", "frame of 0", "frame of 79", "frame of 81", "frame of 200",
@@ -77,7 +77,8 @@ const LENT: [&str; 35] = [
     "panel sound: last time 2^48 - 1", "panel sound: busy end 2^48 + 65535",
     "panel sound: display address 15", "panel sound: pattern address 31", "panel sound: shift 15",
     "panel sound: Function Set bits 15", "panel sound: pattern entry 31", "panel and times",
-    "unsound in two ways",
+    "unsound in two ways", "10 with a log cut before any record", "10 on an empty log",
+    "10 over records, counts 0",
 ];
 
 const UNSOUND: [&str; 10] = [
@@ -90,6 +91,44 @@ const REFUSED: [&str; 22] = [
     "R/W of the half", "sort of the half", "RS where none waits", "R/W where none waits",
     "nibble where none waits", "nibble of an ignored half", "unknown word", "file missing",
     "file not readable", "frame file too long", "number missing", "not a number", "number too large",
+];
+
+/// With the word `records`.
+const BY_RECORDS: [&str; 15] = [
+    "empty log", "cut log", "log longer than a block", "cut log longer than a block", "record of length 2",
+    "record of length 64", "panel handed in", "half handed in", "fed in pieces", "cut log, in pieces",
+    "log longer than a block, in pieces", "10 over records", "10 with a cut log", "10 on an empty log",
+    "10 of a panel with a half",
+];
+
+/// What `wall` shows: D, C and B, where the cursor is, and what is written.
+const WALL_SCREENS: [&str; 19] = [
+    "D off, C on", "D off, B on", "D on alone", "C alone, light", "C alone, dark", "B alone, light", "B alone, dark",
+    "C and B, light", "C and B, dark", "cursor in pattern memory", "cursor in pattern memory, at a shift",
+    "cursor above 15 in pattern memory", "a pattern that is not blank", "ascii, light", "ascii, dark", "bitmap, light",
+    "bitmap, dark", "bitmap at a shift", "bitmap of the blink at a shift",
+];
+
+/// When `wall` shows it.
+const WALL_TIMES: [&str; 24] = [
+    "no time", "at 0", "at 2^48", "at 2^48 - 1", "before the first record", "after the last record",
+    "at a record's time", "one before a record's time", "one after a record's time", "at the time of several records",
+    "at a busy end", "one before a busy end", "between two halves", "a reset is the first that is later",
+    "at a bad record's time", "a bad record of a later time first", "at a backward record's time",
+    "records that tell a later time, all of them bad", "another panel at the end of the log", "a cut log",
+    "a cut log, and a time after the cut", "a cut log, and a time before the cut", "an empty log",
+    "an empty log, and a time",
+];
+
+/// How `wall` is fed, where the log is longer than a block.
+const WALL_BLOCKS: [&str; 6] = [
+    "fed in pieces", "fed in pieces, and a time", "the time in the second block", "the time in a later block",
+    "the time in the second block, in pieces", "the time in a later block, in pieces",
+];
+
+const WALL_REFUSED: [&str; 9] = [
+    "unknown word", "group given twice", "number missing", "not a number", "number too large", "ascii and pbm",
+    "file missing", "file not readable", "size of the font",
 ];
 
 /// The codes at the ends of each instruction's range, as the report names them.
@@ -133,19 +172,29 @@ const REPORT_AMONG: [&str; 14] = [
     "torn by a data write", "none", "a half that a reset drops",
 ];
 
-/// What the classes of the report begin with; they are wanted where it is compared.
+/// What the classes of the report and of the wall begin with; they are wanted
+/// where these are compared.
 pub const REPORT: &str = "report: ";
+pub const WALL: &str = "wall: ";
 
 pub struct Reach {
     classes: BTreeMap<String, u64>,
     /// Instruction codes seen, by width and by free or busy.
     codes: [[bool; 256]; 4],
+    /// Codes that `wall` showed with the display on.
+    shown: [bool; 256],
+}
+
+impl Default for Reach {
+    fn default() -> Reach {
+        Reach::new()
+    }
 }
 
 impl Reach {
     pub fn new() -> Reach {
         let classes = wanted().into_iter().map(|class| (class, 0)).collect();
-        Reach { classes, codes: [[false; 256]; 4] }
+        Reach { classes, codes: [[false; 256]; 4], shown: [false; 256] }
     }
 
     /// Every class noted is one of the list, so that a slip of the pen shows.
@@ -163,11 +212,16 @@ impl Reach {
         self.codes[usize::from(wide) * 2 + usize::from(free)][usize::from(code)] = true;
     }
 
+    pub fn note_shown(&mut self, code: u8) {
+        self.shown[usize::from(code)] = true;
+    }
+
     pub fn merge(&mut self, other: &Reach) {
         for (class, count) in &other.classes {
             *self.classes.get_mut(class).expect("the same list") += count;
         }
-        for (mine, theirs) in self.codes.iter_mut().flatten().zip(other.codes.iter().flatten()) {
+        let seen = self.codes.iter_mut().flatten().chain(&mut self.shown);
+        for (mine, theirs) in seen.zip(other.codes.iter().flatten().chain(&other.shown)) {
             *mine |= theirs;
         }
     }
@@ -182,6 +236,8 @@ impl Reach {
             let all = seen.iter().all(|&seen| seen);
             table.push((format!("all 256 codes, width {width}, {state}"), u64::from(all)));
         }
+        let all = self.shown.iter().all(|&shown| shown);
+        table.push((format!("{WALL}all 256 codes"), u64::from(all)));
         table
     }
 }
@@ -200,7 +256,17 @@ fn wanted() -> Vec<String> {
     all.extend(UNSOUND.map(|fault| format!("unsound: {fault}")));
     all.extend(REFUSED.map(|reason| format!("refused: {reason}")));
     all.push("refused: group given twice".to_string());
+    all.extend(BY_RECORDS.map(|class| format!("records: {class}")));
     all.extend(wanted_of_report().iter().map(|class| format!("{REPORT}{class}")));
+    all.extend(wanted_of_wall().iter().map(|class| format!("{WALL}{class}")));
+    all
+}
+
+fn wanted_of_wall() -> Vec<String> {
+    let lists: [&[&str]; 3] = [&WALL_SCREENS, &WALL_TIMES, &WALL_BLOCKS];
+    let mut all: Vec<String> = lists.concat().iter().map(|class| class.to_string()).collect();
+    all.extend((0..16).map(|shift| format!("the cursor at shift {shift}")));
+    all.extend(WALL_REFUSED.map(|reason| format!("refused: {reason}")));
     all
 }
 

@@ -4,10 +4,16 @@ pub mod AgainStateLaws
 pub mod RepeatsLaws
 pub mod AgainLaws
 pub mod AgainCases
+pub mod Columns
 pub mod Entry
+pub mod EntryLaws
 pub mod Account
 pub mod AccountLaws
 pub mod DataWrites
+pub mod Lines
+pub mod StandsLaws
 pub mod DataWritesLaws
+pub mod LinesLaws
 pub mod FollowsLaws
 pub mod DataWritesCases
+pub mod LinesCases

@@ -1,6 +1,6 @@
 -- The instruction table (document 01, "Steps"): what a code asks for.
 use Prim.Native.Nat.{ℕ, _-_, _%_, _/_}
-use mathlib.Core.Bool.{Bool, not}
+use mathlib.Core.Bool.{Bool}
 use lib.Dec.{ltb, eqb}
 use Rattle.laws.specs.Pick.{pick}
 use Rattle.chip.specs.Address.{display, pattern}
@@ -12,8 +12,12 @@ use Rattle.chip.specs.declared.instruction.Instruction.the-variants.{Not
 abbrev pub bit : ℕ → ℕ → Bool
 bit weight code = eqb (code / weight % 2) 1
 
+-- it is 0
+abbrev pub unset : ℕ → ℕ → Bool
+unset weight code = eqb (code / weight % 2) 0
+
 -- 01h; 02h, 03h; 04h to 07h: I/D is bit 1, S is bit 0; 08h to 0Fh: D, C, B are bits 2, 1, 0;
--- 10h to 1Fh: S/C is bit 3, R/L is bit 2; 20h to 3Fh: bit 4 gives the width, bits 3 to 0 are kept;
+-- 10h to 1Fh: S/C is bit 3, R/L is bit 2, and a shift goes left where it is 0; 20h to 3Fh: bit 4 gives the width, bits 3 to 0 are kept;
 -- 40h to 7Fh: pattern address, low five bits; 80h to FFh: display address, low four bits
 abbrev pub decoded : ℕ → Instruction
 decoded code =
@@ -23,7 +27,7 @@ decoded code =
     (pick (ltb code 0x08) (Entry (bit 2 code) (bit 1 code))
     (pick (ltb code 0x10) (Screen (bit 4 code) (bit 2 code) (bit 1 code))
     (pick (ltb code 0x18) (Move (bit 4 code))
-    (pick (ltb code 0x20) (Shift (not (bit 4 code)))
+    (pick (ltb code 0x20) (Shift (unset 4 code))
     (pick (ltb code 0x40) (Function (bit 16 code) (code % 16))
     (pick (ltb code 0x80) (Set (Pattern (pattern (code % 32))))
     (Set (Display (display (code % 16))))))))))))

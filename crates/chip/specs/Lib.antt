@@ -6,3 +6,4 @@ pub mod Sound
 pub mod StepLaws
 pub mod WidthLaws
 pub mod SoundLaws
+pub mod FunctionLaws

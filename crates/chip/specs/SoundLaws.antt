@@ -15,8 +15,8 @@ use Rattle.laws.specs.PickLaws.{past}
 use Rattle.laws.specs.Ring.{moved-below}
 use Rattle.chip.specs.Address.{displaySize, patternSize, display, pattern, movedAddress}
 use Rattle.chip.specs.Sheet.{freshSheet}
-use Rattle.chip.specs.Instruction.{bit, decoded}
-use Rattle.chip.specs.Step.{homed, cleared, entered, lit, stepped, shifted, functionSet, addressSet, acted, obeyed, storedAt, followedAt, written, passed}
+use Rattle.chip.specs.Instruction.{bit, unset, decoded}
+use Rattle.chip.specs.Step.{homed, cleared, entered, lit, stepped, shifted, functionSet, addressSet, acted, obeyed, storedAt, movedOn, shiftsAt, written, passed}
 use Rattle.chip.specs.Sound.{addressFits, patternFits, soundSheet}
 use Rattle.chip.specs.declared.address.Address.{Address}
 use Rattle.chip.specs.declared.address.Address.the-variants.{Display, Pattern}
@@ -117,7 +117,7 @@ decoded-fits code =
     (by (ltb code 0x08) (plain (Entry (bit 2 code) (bit 1 code)) (entered-sound (bit 2 code) (bit 1 code)))
     (by (ltb code 0x10) (plain (Screen (bit 4 code) (bit 2 code) (bit 1 code)) (lit-sound (bit 4 code) (bit 2 code) (bit 1 code)))
     (by (ltb code 0x18) (plain (Move (bit 4 code)) (stepped-sound (bit 4 code)))
-    (by (ltb code 0x20) (plain (Shift (not (bit 4 code))) (shifted-sound (not (bit 4 code))))
+    (by (ltb code 0x20) (plain (Shift (unset 4 code)) (shifted-sound (unset 4 code)))
     (by (ltb code 0x40) (plain (Function (bit 16 code) (code % 16)) (λ s h. functionSet-sound (bit 16 code) (code % 16) s (mod-lt code (omega arith)) h))
     (by (ltb code 0x80)
     (plain (Set (Pattern (pattern (code % 32)))) (λ s h. addressSet-sound (Pattern (pattern (code % 32))) s (lt-ltb _ patternSize (mod-lt code (omega arith))) h))
@@ -144,21 +144,16 @@ stored-sound (Pattern p) byte s h =
       entries = set-fits (s .pattern) (p .0 % patternSize) (byte % 32) (mod-lt byte (omega arith)) (h .entries);
     }
 
-followed-sound : (a : Address) (s : Sheet) → Sound s → Sound (followedAt a s)
-followed-sound (Display d) s h = by (s .registers .follow)
-  where
-    by : (b : Bool) → Sound (pick b (shifted (s .registers .up) s) s)
-    by true = shifted-sound (s .registers .up) s h
-    by false = h
-followed-sound (Pattern p) s h = h
+movedOn-sound : (shifts : Bool) (s : Sheet) → Sound s → Sound (movedOn shifts s)
+movedOn-sound true s h = let up = s .registers .up in shifted-sound up (stepped up s) (stepped-sound up s h)
+movedOn-sound false s h = stepped-sound (s .registers .up) s h
 
 -- so does a data write
 pub written-sound : (byte : ℕ) (s : Sheet) → Sound s → Sound (written byte s)
 written-sound byte s h =
     let a = s .registers .address in
-    followed-sound a (stepped (s .registers .up) (storedAt a byte s))
-    (stepped-sound (s .registers .up) (storedAt a byte s) (stored-sound a byte s h))
+    movedOn-sound (shiftsAt a (s .registers .follow)) (storedAt a byte s) (stored-sound a byte s h)
 
 -- and a data read
 pub passed-sound : (s : Sheet) → Sound s → Sound (passed s)
-passed-sound s h = stepped-sound (s .registers .up) s h
+passed-sound s h = movedOn-sound false s h

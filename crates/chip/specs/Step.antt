@@ -1,6 +1,6 @@
 -- What each step does to the sheet (document 01, "Steps").
 use Prim.Native.Nat.{ℕ}
-use mathlib.Core.Bool.{Bool, true}
+use mathlib.Core.Bool.{Bool, true, false}
 use lib.ListN.{replicate}
 use Rattle.laws.specs.Pick.{pick}
 use Rattle.laws.specs.Ring.{moved}
@@ -66,18 +66,22 @@ abbrev pub storedAt : Address → ℕ → Sheet → Sheet
 storedAt (Display a) byte s = withDisplay (writtenDisplay a byte (s .display)) s
 storedAt (Pattern a) byte s = withPattern (writtenPattern a byte (s .pattern)) s
 
--- with S = 1 a display-memory write also shifts: left if I/D = 1, right if 0
-abbrev pub followedAt : Address → Sheet → Sheet
-followedAt (Display a) s = pick (s .registers .follow) (shifted (s .registers .up) s) s
-followedAt (Pattern a) s = s
+-- the address moves by I/D and, where told, the display with it: left if I/D = 1, right if 0
+abbrev pub movedOn : Bool → Sheet → Sheet
+movedOn shifts s = let t = stepped (s .registers .up) s in pick shifts (shifted (s .registers .up) t) t
+
+-- whether a write shifts: with S = 1, in display memory alone
+abbrev pub shiftsAt : Address → Bool → Bool
+shiftsAt (Display a) follow = follow
+shiftsAt (Pattern a) follow = false
 
 -- data write: stores at the address, then the address moves by I/D, then the shift
 abbrev pub writtenAt : Address → ℕ → Sheet → Sheet
-writtenAt a byte s = followedAt a (stepped (s .registers .up) (storedAt a byte s))
+writtenAt a byte s = movedOn (shiftsAt a (s .registers .follow)) (storedAt a byte s)
 
 abbrev pub written : ℕ → Sheet → Sheet
 written byte s = writtenAt (s .registers .address) byte s
 
 -- data read: the address moves; no shift
 abbrev pub passed : Sheet → Sheet
-passed s = stepped (s .registers .up) s
+passed s = movedOn false s

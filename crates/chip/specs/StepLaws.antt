@@ -9,7 +9,7 @@ use lib.ListN.{length, getD, set}
 use lib.Seq.{getD-set-same, getD-set-other}
 use Rattle.laws.specs.Pick.{pick}
 use Rattle.chip.specs.Address.{displaySize, patternSize, readDisplay, writtenDisplay, readPattern, writtenPattern, numberOf}
-use Rattle.chip.specs.Step.{homed, cleared, entered, lit, stepped, shifted, functionSet, addressSet, storedAt, writtenAt, written, passed}
+use Rattle.chip.specs.Step.{homed, cleared, entered, lit, stepped, shifted, functionSet, addressSet, storedAt, movedOn, writtenAt, written, passed}
 use Rattle.chip.specs.declared.address.DisplayAddress.{DisplayAddress}
 use Rattle.chip.specs.declared.address.PatternAddress.{PatternAddress}
 use Rattle.chip.specs.declared.address.Address.{Address}
@@ -19,13 +19,6 @@ use Rattle.chip.specs.declared.sheet.Sheet.{Sheet}
 -- a write by the memory that the address is known to point into
 pub written-as : (a : Address) (byte : ℕ) (s : Sheet) → s .registers .address ≡ a → writtenAt a byte s ≡ written byte s
 written-as a byte s e = ap (λ x. writtenAt x byte s) (sym e)
-
--- a write to display memory with S as it is known to be
-pub written-follow : (a : DisplayAddress) (byte : ℕ) (s : Sheet) (f : Bool) → s .registers .address ≡ Display a → s .registers .follow ≡ f →
-    (let t = stepped (s .registers .up) (storedAt (Display a) byte s) in pick f (shifted (s .registers .up) t) t) ≡ written byte s
-written-follow a byte s f e g =
-    let t = stepped (s .registers .up) (storedAt (Display a) byte s) in
-    ap (λ b. pick b (shifted (s .registers .up) t) t) (sym g) ∙ written-as (Display a) byte s e
 
 -- What two sheets have in common. Each law below says which of these a step leaves.
 abbrev pub SameEntry : Sheet → Sheet → Type 0
@@ -101,16 +94,14 @@ pub display-write-keeps : (d : DisplayAddress) (byte : ℕ) (s : Sheet) → let 
     SameEntry s t × SameScreen s t × SameFunction s t × SamePattern s t
 display-write-keeps d byte s = by (s .registers .follow)
   where
-    by : (b : Bool) → let t = pick b (shifted (s .registers .up) (stepped (s .registers .up) (storedAt (Display d) byte s))) (stepped (s .registers .up) (storedAt (Display d) byte s)) in
+    by : (b : Bool) → let t = movedOn b (storedAt (Display d) byte s) in
         SameEntry s t × SameScreen s t × SameFunction s t × SamePattern s t
     by true = ((refl, refl), (refl, refl, refl), (refl, refl), refl)
     by false = ((refl, refl), (refl, refl, refl), (refl, refl), refl)
 
 -- with S = 0 a display write leaves the shift too
 pub still-write-keeps : (d : DisplayAddress) (byte : ℕ) (s : Sheet) → s .registers .follow ≡ false → SameShift s (writtenAt (Display d) byte s)
-still-write-keeps d byte s e =
-    let t = stepped (s .registers .up) (storedAt (Display d) byte s) in
-    ap (λ b. pick b (shifted (s .registers .up) t) t .registers .shift) e
+still-write-keeps d byte s e = ap (λ b. movedOn b (storedAt (Display d) byte s) .registers .shift) e
 
 -- a value stored round a memory of n places reads back
 back : (n a v : ℕ) (m : List ℕ) → 0 < n → n ≤ length m → getD (set m (a % n) v) (a % n) 0 ≡ v

@@ -1,13 +1,13 @@
 -- The width: Function Set, 20h to 3Fh, gives it by bit 4, and nothing else changes it.
 use Prim.Native.Nat.{ℕ, _%_, _≤_}
 use mathlib.Core.Path.{_≡_, refl, ap, _∙_}
-use mathlib.Core.Bool.{Bool, true, false, not}
+use mathlib.Core.Bool.{Bool, true, false}
 use native.Mathlib.Omega.{arith}
 use lib.Dec.{ltb}
 use borrow.Author.Tests.{ltb-false, le-ltb}
 use Rattle.laws.specs.Pick.{pick}
 use Rattle.chip.specs.Address.{display, pattern}
-use Rattle.chip.specs.Instruction.{bit, decoded}
+use Rattle.chip.specs.Instruction.{bit, unset, decoded}
 use Rattle.chip.specs.Step.{acted, obeyed, writtenAt, written}
 use Rattle.chip.specs.StepLaws.{pattern-write-keeps, display-write-keeps}
 use Rattle.chip.specs.declared.address.Address.{Address}
@@ -33,7 +33,7 @@ low-keeps code e =
     (either (ltb code 0x08) (keeps (Entry (bit 2 code) (bit 1 code)) (λ s. refl))
     (either (ltb code 0x10) (keeps (Screen (bit 4 code) (bit 2 code) (bit 1 code)) (λ s. refl))
     (either (ltb code 0x18) (keeps (Move (bit 4 code)) (λ s. refl))
-    (keeps (Shift (not (bit 4 code))) (λ s. refl))))))))
+    (keeps (Shift (unset 4 code)) (λ s. refl))))))))
 
 high-code : (code : ℕ) → 0x20 ≤ code →
     decoded code ≡

@@ -42,7 +42,9 @@ pub fn decode(code: u8) -> Instruction
             blink: bit0,
         },
         0x10..=0x17 => Instruction::Move { up: bit2 },
-        0x18..=0x1F => Instruction::Shift { left: !bit2 },
+        0x18..=0x1F => Instruction::Shift {
+            left: code / 4 % 2 == 0,
+        },
         0x20..=0x3F => Instruction::Function {
             eight: bit4,
             bits: code % 16,

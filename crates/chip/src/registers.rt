@@ -2,7 +2,7 @@
 // copied; together with the memories as they then stand, the answer is the meaning's step of the whole sheet.
 ghost use mathlib.Core.Path.{_≡_};
 ghost use Rattle.chip.specs.Sheet.{Starts, Steps, StepsDisplay, StepsBoth, freshSheet, readHere};
-ghost use Rattle.chip.specs.Step.{cleared, homed, entered, lit, stepped, shifted, functionSet, addressSet, written, passed, acted, obeyed};
+ghost use Rattle.chip.specs.Step.{cleared, homed, entered, lit, stepped, shifted, functionSet, addressSet, movedOn, written, passed, acted, obeyed};
 use crate::address::Address;
 use crate::address::DISPLAY_SIZE;
 use crate::address::DisplayAddress;
@@ -161,13 +161,26 @@ impl Registers {
         }
     }
 
+    // What comes after a data transfer: the address moves by I/D and, where told, the display with it.
+    fn move_on(self, shifts: bool) -> Registers
+        ensures { λ r. ⌜ Steps (movedOn shifts) self r ⌝ }
+    {
+        let moved = self.step(self.up);
+        if shifts {
+            moved.shift_by_one(self.up)
+        } else {
+            moved
+        }
+    }
+
     // A data read moves the address, and never shifts.
     pub fn read(self) -> Registers
         ensures { λ r. ⌜ Steps passed self r ⌝ }
     {
-        self.step(self.up)
+        self.move_on(false)
     }
 
+    // A data write shifts with S = 1, and in display memory alone.
     pub fn write(
         self,
         byte: u8,
@@ -177,19 +190,16 @@ impl Registers {
         ensures { λ r. ⌜ StepsBoth (written byte) self (now (display .entry)) (now (pattern .entry)) r (now (display .exit)) (now (pattern .exit)) ⌝ }
     {
         let a = self.address;
-        let moved = self.step(self.up);
         match a {
             Address::Display(d) => {
+                let next = self.move_on(self.follow);
                 d.write(byte, display);
-                if self.follow {
-                    moved.shift_by_one(self.up)
-                } else {
-                    moved
-                }
+                next
             }
             Address::Pattern(p) => {
+                let next = self.move_on(false);
                 p.write(byte, pattern);
-                moved
+                next
             }
         }
     }

@@ -5,7 +5,7 @@ use native.Mathlib.Nat.{zero-add}
 use mathlib.Core.Path.{_≡_, refl, sym, ap, _∙_}
 use mathlib.Core.Bool.{Bool, true, false, false≢true}
 use mathlib.Core.List.{List, [], _∷_}
-use lib.ListN.{length, getD, set, replicate, length-set, getD-replicate}
+use lib.ListN.{length, getD, set, replicate, length-set, length-drop, getD-replicate}
 use lib.Seq.{getD-set-same, getD-set-other}
 use lib.Dec.{ltb, eqb}
 use borrow.Author.Tests.{ltb-true, ltb-false, eqb-true, eqb-false}
@@ -13,25 +13,28 @@ use Rattle.laws.specs.Pick.{pick}
 use Rattle.log.specs.Frame.{recordSize, timeOf, rsOf, rwOf, dataOf, isReset, cutAt, badAt, frameOf}
 use Rattle.log.specs.Frames.{frames, recordsOf}
 use Rattle.log.specs.FrameLaws.{IsRecord}
-use Rattle.log.specs.FramesLaws.{AllRecords, frames-are-records}
+use Rattle.log.specs.FramesLaws.{AllRecords, frames-cut, frames-next, frames-induction, frames-are-records}
+use Rattle.log.specs.FrontLaws.{uncut-front}
 use Rattle.log.specs.declared.frame.Frame.{Frame}
 use Rattle.log.specs.declared.frame.Frame.the-variants as frame
 use Rattle.mirror.specs.Answer.{numberOf}
 use Rattle.mirror.specs.Way.{Way, wayOf}
 use Rattle.mirror.specs.Words.{joinedOf, free}
 use Rattle.mirror.specs.Record.{went, transferred, answered}
-use Rattle.mirror.specs.Run.{mostCount, capped, raised, tallied}
-use Rattle.mirror.specs.Stream.{runOf}
-use Rattle.mirror.specs.StreamLaws.{raised-capped}
+use Rattle.mirror.specs.Run.{mostCount, capped, raised, tallied, started}
+use Rattle.mirror.specs.Panel.{soundPanel}
+use Rattle.mirror.specs.Stream.{runAs, runOf}
+use Rattle.mirror.specs.StreamLaws.{raised-capped, onward-records}
 use Rattle.mirror.specs.declared.answer.Answer.{Answer}
 use Rattle.mirror.specs.declared.answer.Answer.the-variants as say
 use Rattle.mirror.specs.declared.panel.Panel.{Panel}
 use Rattle.mirror.specs.declared.record.Recorded.{Recorded}
 use Rattle.striking.specs.Machine.{Answered, run}
-use Rattle.demands.specs.Mirrors.{Reply, ours, machineOf}
+use Rattle.demands.specs.Mirrors.{Reply, Mirror, ours, machineOf}
+use Rattle.demands.specs.EngineLaws.{engine}
 use Rattle.demands.specs.Answers.{answersBy, countsOf, numbers}
-use Rattle.demands.specs.AnswersLaws.{of-run}
-use Rattle.demands.specs.Rules.{occurrences, Counts, AddsUp}
+use Rattle.demands.specs.AnswersLaws.{OfRun, of-engine, of-run}
+use Rattle.demands.specs.Rules.{occurrences, InMemory, Counts, CountsRecords, AddsUp}
 
 -- EACH COUNT. One answer more
 tally-length : (counts : List ℕ) (a : Answer) → length (tallied counts a) ≡ length counts
@@ -73,12 +76,16 @@ count-at (a ∷ rest) counts n k h l e =
     let c : occurrences n (numbers rest) + (one + k) ≡ one + occurrences n (numbers rest) + k = omega arith in
     count-at rest (tallied counts x) n (one + k) h (tally-length counts x ∙ l) (tally-at counts x n k h l e) ∙ ap capped c
 
+each-count : (m : Mirror) (p : Panel) (log : List ℕ) → OfRun m p log → (n : ℕ) → n < 8 →
+    getD (runOf p log .counts) n 0 ≡ capped (occurrences n (numbers (answersBy m p log)))
+each-count m p log r n h =
+    let answers = answersBy m p log in
+    let c : occurrences n (numbers answers) + 0 ≡ occurrences n (numbers answers) = omega arith in
+    ap (λ l. getD l n 0) (r .counts) ∙ count-at answers (replicate 8 0) n 0 h refl (getD-replicate 8 n 0 0 h) ∙ ap capped c
+
 -- COUNTS: each is the number of records that were answered so
 pub counts : Counts runOf
-counts p log s n h =
-    let answers = answersBy ours p log in
-    let c : occurrences n (numbers answers) + 0 ≡ occurrences n (numbers answers) = omega arith in
-    ap (λ l. getD l n 0) (of-run p log s .counts) ∙ count-at answers (replicate 8 0) n 0 h refl (getD-replicate 8 n 0 0 h) ∙ ap capped c
+counts p log h = each-count ours p log (of-run p log h)
 
 -- TOGETHER. Every record of a log is answered 0 to 7
 abbrev Counted : Answer → Type 0
@@ -139,11 +146,11 @@ one-more say.Nothing l h = omega arith
 one-more say.Cut l h = absurd (false≢true h)
 one-more say.Unsound l h = absurd (false≢true h)
 
-occurring-all : (fs : List (List ℕ)) (p : Panel) → AllRecords fs → occurring (numbers (run (machineOf ours) p fs)) ≡ length fs
+occurring-all : (fs : List (List ℕ)) (p : Panel) → AllRecords fs → occurring (numbers (run (machineOf engine) p fs)) ≡ length fs
 occurring-all [] p h = refl
 occurring-all (f ∷ fs) p h =
     let r = answered (frameOf f) p in
-    let rest = numbers (run (machineOf ours) (r .panel) fs) in
+    let rest = numbers (run (machineOf engine) (r .panel) fs) in
     omega (arith, one-more (r .answer) rest (answered-counted (frameOf f) p (uncut-record f (h .0 .uncut))), occurring-all fs (r .panel) (h .1))
 
 capped-small : (n : ℕ) → n ≤ mostCount → capped n ≡ n
@@ -153,13 +160,35 @@ capped-small n h = by (ltb n mostCount) refl
     by true e = refl
     by false e = omega (arith, h, ltb-false n mostCount e)
 
+-- a log has no more records than bytes
+few-records : (log : List ℕ) → recordsOf log ≤ length log
+few-records =
+    frames-induction (λ s. recordsOf s ≤ length s) (λ s u. rw (frames-cut s u) (omega arith))
+    (λ s u h. rw (frames-next s u) (omega (arith, h, length-drop (recordSize s) s, uncut-front s u .fits, uncut-front s u .least)))
+
+in-count : (log : List ℕ) → InMemory log → capped (recordsOf log) ≡ recordsOf log
+in-count log h = capped-small (recordsOf log) (omega (arith, h, few-records log))
+
+-- COUNTS: the number of records is read off the lengths alone, whatever the panel
+pub counts-records : CountsRecords runOf
+unfolding runOf
+counts-records p log h = by (soundPanel p) ∙ in-count log h
+  where
+    none : 0 + recordsOf log ≡ recordsOf log
+    none = omega arith
+
+    by : (b : Bool) → runAs b p log .records ≡ capped (recordsOf log)
+    by true = onward-records (frames log) (started p) 0 refl ∙ ap capped none
+    by false = refl
+
 -- COUNTS: they add up to the number of records
 pub adds-up : AddsUp runOf
 adds-up p log s h =
-    let l = numbers (answersBy ours p log) in
+    let l = numbers (answersBy engine p log) in
     let all : occurring l ≡ recordsOf log = occurring-all (frames log) p (frames-are-records log) in
+    let few = few-records log in
     let at : (n : ℕ) → n < 8 → occurrences n l ≤ recordsOf log → getD (runOf p log .counts) n 0 ≡ occurrences n l =
-    λ n k m. counts p log s n k ∙ capped-small (occurrences n l) (omega (arith, m, h)) in
+    λ n k m. each-count engine p log (of-engine p log s) n k ∙ capped-small (occurrences n l) (omega (arith, m, h, few)) in
     omega (
       arith,
       all,

@@ -1,6 +1,9 @@
 pub mod Mirrors
 pub mod Answers
+pub mod EngineLaws
 pub mod AnswersLaws
+pub mod Chain
+pub mod ChainLaws
 pub mod Replay
 pub mod Ways
 pub mod ReplayLaws
@@ -10,6 +13,14 @@ pub mod StrikingLaws
 pub mod Logs
 pub mod Naive
 pub mod Cases
+pub mod RowCases
+pub mod StepCases
+pub mod HalfCases
+pub mod AnswerCases
+pub mod RunCases
+pub mod SoundCases
+pub mod GlassCases
+pub mod StrikeCases
 pub mod Rules
 pub mod RulesLaws
 pub mod CountsLaws

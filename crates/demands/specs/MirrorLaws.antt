@@ -1,4 +1,4 @@
--- Our mirror is a machine that has the laws of striking.
+-- The engine is a machine that has the laws of striking.
 use Prim.Native.Nat.{ℕ, _≤_}
 use native.Mathlib.Omega.{arith}
 use native.Mathlib.Nat.{le-refl}
@@ -24,7 +24,8 @@ use Rattle.mirror.specs.declared.record.Recorded.{Recorded}
 use Rattle.striking.specs.Machine.{goes, strikes, leaves, sorted, Machine}
 use Rattle.striking.specs.Laws.{Turn, KeeperStays, Laws}
 use Rattle.striking.specs.Instances.{through-laws}
-use Rattle.demands.specs.Mirrors.{Reply, outOf, ours, sortOf, settledPanel, machineOf}
+use Rattle.demands.specs.Mirrors.{Reply, outOf, sortOf, settledPanel, machineOf}
+use Rattle.demands.specs.EngineLaws.{engine}
 use Rattle.demands.specs.Replay.{carried}
 use Rattle.demands.specs.Ways.{Drops, status, ignored, torn, nothing, Stands, back, bad, cut, Narrow, Fits, Goes, acts, drops, misses, begins, Came, stands, restarts, transfers, came}
 
@@ -162,5 +163,5 @@ parsed-laws =
       keeper-stays = λ f r. keeper-stays (r .answer);
     }
 
-pub mirror-laws : Laws (machineOf ours)
+pub mirror-laws : Laws (machineOf engine)
 mirror-laws = through-laws frameOf parsed parsed-laws

@@ -1,9 +1,8 @@
--- A mirror, whatever it does; and ours, which the contracts speak of.
+-- A mirror, whatever it does; and ours, which is the table of answers.
 use Prim.Native.Nat.{ℕ}
 use mathlib.Core.Path.{_≡_}
 use mathlib.Core.List.{List}
-use Rattle.log.specs.Frame.{frameOf}
-use Rattle.mirror.specs.Record.{answered}
+use Rattle.mirror.specs.Table.{recordOf}
 use Rattle.mirror.specs.Words.{holding}
 use Rattle.mirror.specs.declared.answer.Answer.{Answer}
 use Rattle.mirror.specs.declared.answer.Answer.the-variants.{Taken, Held, Status, Ignored, Torn, Back, Bad, Nothing, Cut, Unsound}
@@ -24,9 +23,9 @@ Mirror = Panel → List ℕ → Out Panel Reply
 abbrev pub outOf : Recorded → Out Panel Reply
 outOf r = record { state = r .panel; answer = record { answer = r .answer; byte = r .byte } }
 
--- ours: what a run makes of a record
+-- ours: the record that the table's row describes
 abbrev pub ours : Mirror
-ours p bytes = outOf (answered (frameOf bytes) p)
+ours p bytes = outOf (recordOf p bytes)
 
 -- what striking does by an answer: taken stays, and its first half with it; held waits; back and bad go, and a half that waits goes on
 -- waiting; the rest go, and the first half with them. No record of a log is answered cut or unsound

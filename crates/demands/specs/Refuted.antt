@@ -9,18 +9,21 @@ use lib.Dec.{eqb}
 use Rattle.laws.specs.Pick.{pick}
 use Rattle.log.specs.Frames.{recordsOf}
 use Rattle.chip.specs.Address.{numberOf as addressNumber}
+use Rattle.chip.specs.Sheet.{freshSheet}
 use Rattle.chip.specs.declared.sheet.Sheet.{Sheet}
 use Rattle.mirror.specs.Answer.{numberOf}
+use Rattle.mirror.specs.Panel.{freshPanel}
 use Rattle.mirror.specs.Stream.{runOf}
 use Rattle.mirror.specs.declared.answer.Answer.{Answer}
 use Rattle.mirror.specs.declared.answer.Answer.the-variants as say
 use Rattle.mirror.specs.declared.panel.Panel.{Panel}
-use Rattle.demands.specs.Mirrors.{Mirror, ours}
-use Rattle.demands.specs.Answers.{panelBy}
-use Rattle.demands.specs.Replay.{Replays}
+use Rattle.striking.specs.Machine as machine
+use Rattle.demands.specs.Mirrors.{Reply, Mirror, ours}
+use Rattle.demands.specs.Answers.{answersBy, panelBy}
+use Rattle.demands.specs.Replay.{carriedAll, takenOf, Replays}
 use Rattle.demands.specs.Rules.{IgnoresBusy, Steps, Counter, Counts, AddsUp}
 use Rattle.demands.specs.RulesLaws.{ignores-busy}
-use Rattle.demands.specs.Logs.{answering, instructAt, writeAt, casePanel}
+use Rattle.demands.specs.Logs.{answering, instructAt, writeAt, casePanel, typed, proper}
 
 -- ONE THAT ANSWERS THE SAME FOR ALL, whatever it does to the panel. The busy rule: 57h as data at 0 is not ignored; after Clear at 100,
 -- 57h as data at 200 is
@@ -55,8 +58,49 @@ not-still m same h =
     (sym (ap (λ (x : Panel). x .sheet) (same casePanel (writeAt 0 0x57))) ∙ h casePanel (writeAt 0 0x57) 0 true false 0x57 refl refl (omega arith)) in
     omega arith
 
--- ONE THAT OBEYS THE FIRST RECORD AND ONLY NODS AT LATER ONES: once its busy end is set it answers as ours does, with clock and halves, and
--- leaves the sheet. Demand 3: after 57h as data at 0 and at 40 the replay stands at address 2
+-- ONE THAT OBEYS THE FIRST RECORD AND ONLY NODS AT LATER ONES, whatever it is keyed on: it answers as ours does, obeys while the panel is
+-- fresh, and leaves the sheet alone once it is not. Demand 3: after 57h as data at 0 and at 40 the replay stands at address 2
+abbrev pub IsFresh : Panel → Type 0
+IsFresh p = p ≡ freshPanel (p .times .reset) (p .times .long) (p .times .short)
+
+pub record Nods (m : Mirror) : Type 0 where
+  pub answers : (p : Panel) (bytes : List ℕ) → m p bytes .answer ≡ ours p bytes .answer
+  pub obeys : (p : Panel) (bytes : List ℕ) → IsFresh p → m p bytes .state ≡ ours p bytes .state
+  pub nods : (p : Panel) (bytes : List ℕ) → ¬ IsFresh p → m p bytes .state .sheet ≡ p .sheet
+
+-- the panel after the first of the two: no longer fresh, for its busy end is 40
+abbrev once : Panel
+once = ours casePanel (writeAt 0 0x57) .state
+
+once-used : ¬ IsFresh once
+unfolding answering
+once-used e = let b : _≡_ {A = ℕ} 40 0 = ap (λ (p : Panel). p .busy) e in omega arith
+
+-- the log answered by such a mirror, and the panel at its end
+abbrev twice : List ℕ
+twice = writeAt 0 0x57 ++ writeAt 40 0x57
+
+nods-answers : (m : Mirror) → Nods m → answersBy m casePanel twice ≡ answersBy ours casePanel twice
+unfolding answering
+nods-answers m n =
+    let first = n .obeys casePanel (writeAt 0 0x57) refl in
+    ap (λ (p : Panel). machine.answered (writeAt 0 0x57) (m casePanel (writeAt 0 0x57) .answer) ∷ machine.answered (writeAt 40 0x57) (m p (writeAt 40 0x57) .answer) ∷ []) first
+    ∙ ap (λ (r : Reply). machine.answered (writeAt 0 0x57) r ∷ machine.answered (writeAt 40 0x57) (m once (writeAt 40 0x57) .answer) ∷ []) (n .answers casePanel (writeAt 0 0x57))
+    ∙ ap (λ (r : Reply). machine.answered (writeAt 0 0x57) (ours casePanel (writeAt 0 0x57) .answer) ∷ machine.answered (writeAt 40 0x57) r ∷ []) (n .answers once (writeAt 40 0x57))
+
+nods-sheet : (m : Mirror) → Nods m → panelBy m casePanel twice .sheet ≡ once .sheet
+unfolding answering
+nods-sheet m n =
+    ap (λ (p : Panel). m p (writeAt 40 0x57) .state .sheet) (n .obeys casePanel (writeAt 0 0x57) refl) ∙ n .nods once (writeAt 40 0x57) once-used
+
+pub not-nodding : (m : Mirror) → Nods m → ¬ Replays m
+unfolding answering
+not-nodding m n h =
+    let all = ap (λ l. carriedAll (takenOf l) freshSheet) (sym (nods-answers m n)) ∙ h 10_000 1_640 40 twice (typed twice refl) ∙ nods-sheet m n in
+    let e : _≡_ {A = ℕ} 2 1 = ap (λ (s : Sheet). addressNumber (s .registers .address)) all in
+    omega arith
+
+-- (the busy rule one of them keeps: that which is keyed on the busy end)
 abbrev pub withSheet : Sheet → Panel → Panel
 withSheet s p = record { sheet = s; busy = p .busy; half = p .half; times = p .times; last = p .last }
 
@@ -65,16 +109,8 @@ nodding p bytes =
     let o = ours p bytes in
     record { state = pick (eqb (p .busy) 0) (o .state) (withSheet (p .sheet) (o .state)); answer = o .answer }
 
--- (the busy rule it keeps)
 pub nodding-ignores-busy : IgnoresBusy nodding
 nodding-ignores-busy = ignores-busy
-
-pub not-nodding : ¬ Replays nodding
-unfolding answering
-not-nodding h =
-    let e : _≡_ {A = ℕ} 2 1 =
-    ap (λ (s : Sheet). addressNumber (s .registers .address)) (h 10_000 1_640 40 (writeAt 0 0x57 ++ writeAt 40 0x57)) in
-    omega arith
 
 -- ONE THAT INVENTS COUNTS: a run with other counts
 abbrev pub counting : (List ℕ → List ℕ) → Counter
@@ -95,5 +131,5 @@ not-constant counts h =
 pub not-all-taken : ¬ Counts (counting (λ log. recordsOf log ∷ replicate 7 0))
 unfolding answering
 not-all-taken h =
-    let e : _≡_ {A = ℕ} 2 1 = h casePanel (instructAt 100 0x01 ++ writeAt 200 0x57) refl 0 (omega arith) in
+    let e : _≡_ {A = ℕ} 2 1 = h casePanel (instructAt 100 0x01 ++ writeAt 200 0x57) (proper (instructAt 100 0x01 ++ writeAt 200 0x57) refl) 0 (omega arith) in
     omega arith

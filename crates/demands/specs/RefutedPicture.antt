@@ -28,6 +28,11 @@ CountsDots painter =
     (p : Panel) (font : List ℕ) (dark : Bool) (frame : List ℕ) → soundPanel p ≡ true → length font ≡ fontSize → length frame ≡ glass .size →
     paper (painter p font dark frame) .dots ≡ countOf glass (lit (p .sheet) font dark)
 
+-- ours does
+pub counts-dots : CountsDots paintedOf
+counts-dots p font dark frame s f g =
+    rw (s, f, g)
+
 -- always the same number: a fresh panel has no dot lit, and after 0Eh, with a blank font, five are
 pub not-invented : (n : ℕ) → ¬ CountsDots (λ p font dark frame. Lit n)
 unfolding answering countOf lit sum table

@@ -14,6 +14,7 @@ use Rattle.chip.specs.Step.{obeyed, written, passed}
 use Rattle.chip.specs.declared.sheet.Sheet.{Sheet}
 use Rattle.mirror.specs.Answer.{numberOf}
 use Rattle.mirror.specs.Panel.{freshPanel}
+use Rattle.mirror.specs.Answers.{Typed}
 use Rattle.mirror.specs.declared.answer.Answer.{Answer}
 use Rattle.striking.specs.Machine.{Answered}
 use Rattle.demands.specs.Mirrors.{Reply, Mirror}
@@ -86,7 +87,7 @@ takenOf answers = takenFrom none answers
 -- DEMAND 3, FIRST HALF, of any mirror: from a fresh panel, for any log
 abbrev pub Replays : Mirror → Type 0
 Replays m =
-    (reset long short : ℕ) (log : List ℕ) →
+    (reset long short : ℕ) (log : List ℕ) → Typed reset long short log →
     carriedAll (takenOf (answersBy m (freshPanel reset long short) log)) freshSheet ≡ panelBy m (freshPanel reset long short) log .sheet
 
 -- no entry is the instruction 00h

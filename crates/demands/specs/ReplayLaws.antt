@@ -8,9 +8,10 @@ use Rattle.log.specs.Frames.{frames}
 use Rattle.log.specs.declared.frame.Frame.{Frame}
 use Rattle.log.specs.declared.frame.Frame.the-variants as frame
 use Rattle.chip.specs.Sheet.{freshSheet}
-use Rattle.chip.specs.Sound.{patternFits}
 use Rattle.chip.specs.declared.sheet.Sheet.{Sheet}
 use Rattle.mirror.specs.Panel.{freshPanel}
+use Rattle.mirror.specs.Answers.{Typed, Proper}
+use Rattle.mirror.specs.TypedLaws.{typed-proper}
 use Rattle.mirror.specs.Words.{joinedOf}
 use Rattle.mirror.specs.Record.{answered}
 use Rattle.mirror.specs.Stream.{runOf}
@@ -20,6 +21,7 @@ use Rattle.mirror.specs.declared.panel.Panel.{Panel}
 use Rattle.mirror.specs.declared.record.Recorded.{Recorded}
 use Rattle.striking.specs.Machine.{run, final}
 use Rattle.demands.specs.Mirrors.{ours, machineOf}
+use Rattle.demands.specs.EngineLaws.{engine, same-answers, same-panel}
 use Rattle.demands.specs.Answers.{answersBy, panelBy}
 use Rattle.demands.specs.AnswersLaws.{of-run}
 use Rattle.demands.specs.Replay.{Entry, carried, carriedAll, First, none, held, joinedWith, entryOf, entriesBy, firstAfter, takenFrom, takenOf, Replays, AllSomething}
@@ -86,8 +88,8 @@ something-append (e ∷ a) b h k = (h .0, something-append a b (h .1) k)
 
 -- what records have to show, one after another
 record Replayed (first : First) (p : Panel) (fs : List (List ℕ)) : Type 0 where
-  sheet : carriedAll (takenFrom first (run (machineOf ours) p fs)) (p .sheet) ≡ final (machineOf ours) p fs .sheet
-  something : AllSomething (takenFrom first (run (machineOf ours) p fs))
+  sheet : carriedAll (takenFrom first (run (machineOf engine) p fs)) (p .sheet) ≡ final (machineOf engine) p fs .sheet
+  something : AllSomething (takenFrom first (run (machineOf engine) p fs))
 
 replayed : (fs : List (List ℕ)) (first : First) (p : Panel) → Agree first (p .sheet .registers .eight) (p .half) → Replayed first p fs
 replayed [] first p g = record { sheet = refl; something = tt }
@@ -96,7 +98,7 @@ replayed (bytes ∷ fs) first p g =
     let r = answered f p in
     let k = keeps first p f r g (came p f (agree-narrow first (p .sheet .registers .eight) (p .half) g)) in
     let rest = replayed fs (firstAfter (r .answer) first f) (r .panel) (k .agree) in
-    let later = takenFrom (firstAfter (r .answer) first f) (run (machineOf ours) (r .panel) fs) in
+    let later = takenFrom (firstAfter (r .answer) first f) (run (machineOf engine) (r .panel) fs) in
     record {
       sheet = carried-append (entriesBy (r .answer) first f) later (p .sheet) ∙ ap (carriedAll later) (k .sheet) ∙ rest .sheet;
       something = something-append (entriesBy (r .answer) first f) later (k .something) (rest .something);
@@ -107,21 +109,25 @@ from-idle p n log =
     let eight = p .sheet .registers .eight in
     replayed (frames log) none p (subst (Agree none eight) (sym n) (no-half eight))
 
--- from any panel in which no half waits
-pub replay-from : (p : Panel) → p .half ≡ Empty → (log : List ℕ) → carriedAll (takenOf (answersBy ours p log)) (p .sheet) ≡ panelBy ours p log .sheet
-replay-from p n log = from-idle p n log .sheet
+-- from any proper panel in which no half waits
+pub replay-from : (p : Panel) → p .half ≡ Empty → (log : List ℕ) → Proper p log → carriedAll (takenOf (answersBy ours p log)) (p .sheet) ≡ panelBy ours p log .sheet
+replay-from p n log h =
+    ap (λ l. carriedAll (takenOf l) (p .sheet)) (sym (same-answers p log h))
+    ∙ from-idle p n log .sheet
+    ∙ ap (λ (q : Panel). q .sheet) (same-panel p log h)
 
 -- DEMAND 3, FIRST HALF
 pub replay : Replays ours
-replay reset long short log = replay-from (freshPanel reset long short) refl log
+replay reset long short log t = replay-from (freshPanel reset long short) refl log (typed-proper t)
 
 -- and so of a run: both memories, address, shift and settings
-pub replay-run : (reset long short : ℕ) (log : List ℕ) →
+pub replay-run : (reset long short : ℕ) (log : List ℕ) → Typed reset long short log →
     carriedAll (takenOf (answersBy ours (freshPanel reset long short) log)) freshSheet ≡ runOf (freshPanel reset long short) log .panel .sheet
-unfolding patternFits
-replay-run reset long short log =
-    replay reset long short log ∙ sym (ap (λ (p : Panel). p .sheet) (of-run (freshPanel reset long short) log refl .panel))
+replay-run reset long short log t =
+    replay reset long short log t ∙ sym (ap (λ (p : Panel). p .sheet) (of-run (freshPanel reset long short) log (typed-proper t) .panel))
 
 -- 00h is never carried out
-pub replay-something : (reset long short : ℕ) (log : List ℕ) → AllSomething (takenOf (answersBy ours (freshPanel reset long short) log))
-replay-something reset long short log = from-idle (freshPanel reset long short) refl log .something
+pub replay-something : (reset long short : ℕ) (log : List ℕ) → Typed reset long short log → AllSomething (takenOf (answersBy ours (freshPanel reset long short) log))
+replay-something reset long short log t =
+    let p = freshPanel reset long short in
+    subst (λ l. AllSomething (takenOf l)) (same-answers p log (typed-proper t)) (from-idle p refl log .something)

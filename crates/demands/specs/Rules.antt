@@ -1,9 +1,9 @@
 -- Rules that every mirror can be held against: demand 2's busy rule and steps, and the counts.
-use Prim.Native.Nat.{ℕ, _+_, _≤_, _<_}
+use Prim.Native.Nat.{ℕ, _+_, _^_, _≤_, _<_}
 use mathlib.Core.Path.{_≡_}
 use mathlib.Core.Bool.{Bool, true, false, not, _&&_, _||_, Bool·beq}
 use mathlib.Core.List.{List, [], _∷_}
-use lib.ListN.{getD}
+use lib.ListN.{length, getD}
 use lib.Dec.{eqb}
 use Rattle.laws.specs.Pick.{pick}
 use Rattle.log.specs.Frame.{frameOf}
@@ -12,7 +12,8 @@ use Rattle.log.specs.declared.frame.Frame.the-variants.{Transfer}
 use Rattle.mirror.specs.Answer.{numberOf}
 use Rattle.mirror.specs.Panel.{soundPanel}
 use Rattle.mirror.specs.Words.{joinedOf, free}
-use Rattle.mirror.specs.Run.{mostCount, capped}
+use Rattle.mirror.specs.Answers.{Proper}
+use Rattle.mirror.specs.Run.{capped}
 use Rattle.mirror.specs.declared.half.Half.{Half}
 use Rattle.mirror.specs.declared.half.Half.the-variants.{Empty, Ignored, Waiting}
 use Rattle.mirror.specs.declared.panel.Panel.{Panel}
@@ -70,13 +71,21 @@ occurrences n (x ∷ rest) = pick (eqb x n) 1 0 + occurrences n rest
 -- COUNTS: each of the eight counts is the number of records that were answered so, as far as a count goes
 abbrev pub Counts : Counter → Type 0
 Counts run =
-    (p : Panel) (log : List ℕ) → soundPanel p ≡ true →
+    (p : Panel) (log : List ℕ) → Proper p log →
     (n : ℕ) → n < 8 → getD (run p log .counts) n 0 ≡ capped (occurrences n (numbers (answersBy ours p log)))
 
 -- the eight counts together
 abbrev pub total : List ℕ → ℕ
 total c = getD c 0 0 + getD c 1 0 + getD c 2 0 + getD c 3 0 + getD c 4 0 + getD c 5 0 + getD c 6 0 + getD c 7 0
 
--- COUNTS: they add up to the number of records
+-- a log in memory has fewer than 2^64 bytes
+abbrev pub InMemory : List ℕ → Type 0
+InMemory log = length log < 2 ^ 64
+
+-- COUNTS: the number of records is the one read off the lengths, of a refused run too
+abbrev pub CountsRecords : Counter → Type 0
+CountsRecords run = (p : Panel) (log : List ℕ) → InMemory log → run p log .records ≡ recordsOf log
+
+-- COUNTS: unless the run is refused, the eight add up to it
 abbrev pub AddsUp : Counter → Type 0
-AddsUp run = (p : Panel) (log : List ℕ) → soundPanel p ≡ true → recordsOf log ≤ mostCount → total (run p log .counts) ≡ recordsOf log
+AddsUp run = (p : Panel) (log : List ℕ) → soundPanel p ≡ true → InMemory log → total (run p log .counts) ≡ recordsOf log

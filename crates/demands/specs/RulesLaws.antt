@@ -21,6 +21,7 @@ use Rattle.mirror.specs.declared.half.Half.{Half}
 use Rattle.mirror.specs.declared.half.Half.the-variants.{Empty, Ignored, Waiting}
 use Rattle.mirror.specs.declared.panel.Panel.{Panel}
 use Rattle.mirror.specs.declared.record.Recorded.{Recorded}
+use Rattle.mirror.specs.TableLaws.{answered-sound}
 use Rattle.demands.specs.Mirrors.{ours}
 use Rattle.demands.specs.Replay.{Entry, carriedAll, entryOf}
 use Rattle.demands.specs.Rules.{matching, busyAt, entriesAt, IgnoresBusy, Steps}
@@ -102,7 +103,7 @@ unfolding transferred
 ignores-busy p bytes time rs wr bus s f l u m =
     let eight = p .sheet .registers .eight in
     let byte = joinedOf eight (p .half) bus in
-    ap (λ (r : Recorded). eqb (numberOf (r .answer)) 3) (in-time p bytes time rs wr bus f l)
+    ap (λ (r : Recorded). eqb (numberOf (r .answer)) 3) (sym (answered-sound p bytes s) ∙ in-time p bytes time rs wr bus f l)
     ∙ way-ignores time rs wr bus byte p eight (p .half) (free time p) rs wr byte (sound-narrow p s) u m
 
 module _ (time : ℕ) (r w : Bool) (bus byte : ℕ) (p : Panel) where
@@ -166,5 +167,5 @@ way-sheet false (Waiting a b nibble) z rs wr time bus p n =
 pub steps : Steps ours
 unfolding transferred
 steps p bytes time rs wr bus s f l =
-    ap (λ (x : Recorded). x .panel .sheet) (in-time p bytes time rs wr bus f l)
+    ap (λ (x : Recorded). x .panel .sheet) (sym (answered-sound p bytes s) ∙ in-time p bytes time rs wr bus f l)
     ∙ way-sheet (p .sheet .registers .eight) (p .half) (free time p) rs wr time bus p (sound-narrow p s)

@@ -8,6 +8,7 @@ use Rattle.laws.specs.Pick.{pick}
 use Rattle.log.specs.Frames.{frames, tail, joined}
 use Rattle.mirror.specs.Answer.{numberOf}
 use Rattle.mirror.specs.Panel.{freshPanel}
+use Rattle.mirror.specs.Answers.{Typed}
 use Rattle.mirror.specs.declared.panel.Panel.{Panel}
 use Rattle.striking.specs.Machine.{Answered, events}
 use Rattle.striking.specs.Striking.{unstruck}
@@ -51,4 +52,4 @@ pub record StruckFrom (m : Mirror) (p : Panel) (log : List ℕ) : Type 0 where
 
 -- DEMAND 3, SECOND HALF, of any mirror: from a fresh panel, for any log
 abbrev pub Strikes : Mirror → Type 0
-Strikes m = (reset long short : ℕ) (log : List ℕ) → StruckFrom m (freshPanel reset long short) log
+Strikes m = (reset long short : ℕ) (log : List ℕ) → Typed reset long short log → StruckFrom m (freshPanel reset long short) log

@@ -1,5 +1,5 @@
 -- Demand 3, second half, holds of our mirror.
-use Prim.Native.Nat.{ℕ}
+use Prim.Native.Nat.{ℕ, _<_}
 use native.Mathlib.Omega.{arith}
 use mathlib.Core.Path.{_≡_, refl, sym, ap, _∙_, subst}
 use mathlib.Core.Bool.{Bool, true, false}
@@ -7,24 +7,28 @@ use mathlib.Core.List.{List, [], _∷_, append-nil, Sublistᴰ, Sublistᴰ·slni
 use lib.ListN.{length}
 use lib.Dec.{ltb}
 use Rattle.laws.specs.Pick.{pick}
+use Rattle.log.specs.Frame.{dataOf}
 use Rattle.log.specs.FrontLaws.{Front}
-use Rattle.log.specs.Frames.{Pieces, piecesFrom, pieces, frames, joined}
+use Rattle.log.specs.Frames.{Pieces, piecesFrom, pieces, frames, tail, joined}
 use Rattle.log.specs.FramesLaws.{AllRecords, frames-are-records, joined-pieces}
 use Rattle.chip.specs.Sound.{patternFits}
 use Rattle.mirror.specs.Panel.{freshPanel}
+use Rattle.mirror.specs.Answers.{Typed, Proper}
+use Rattle.mirror.specs.TypedLaws.{AllData, frames-data, proper-lasts, typed-proper, typed-lasts}
 use Rattle.mirror.specs.Stream.{runOf}
 use Rattle.mirror.specs.declared.answer.Answer.{Answer}
 use Rattle.mirror.specs.declared.answer.Answer.the-variants as say
 use Rattle.mirror.specs.declared.half.Half.the-variants.{Empty}
 use Rattle.mirror.specs.declared.panel.Panel.{Panel}
-use Rattle.striking.specs.Machine.{Sort, Answered, run, final}
+use Rattle.striking.specs.Machine.{Sort, Answered, events, run, final}
 use Rattle.striking.specs.Striking.{remains, unstruck, struck, Struck}
 use Rattle.striking.specs.Striking.{keptBy as kept}
 use Rattle.striking.specs.StrikingLaws.{striking}
 use Rattle.demands.specs.Mirrors.{Reply, Mirror, ours, sortOf, settledPanel, machineOf}
-use Rattle.demands.specs.Answers.{answersBy}
-use Rattle.demands.specs.AnswersLaws.{of-run}
-use Rattle.demands.specs.Striking.{struckLog, StruckFrom, Strikes, takens, TakenOrHeld}
+use Rattle.demands.specs.Answers.{answersBy, panelBy}
+use Rattle.demands.specs.EngineLaws.{engine, same-run, same-final, same-answers, same-panel}
+use Rattle.demands.specs.AnswersLaws.{of-engine, of-run}
+use Rattle.demands.specs.Striking.{keptBy, struckLog, StruckFrom, Strikes, takens, TakenOrHeld}
 use Rattle.demands.specs.MirrorLaws.{mirror-laws}
 
 -- What goes and what stays, of any mirror
@@ -84,16 +88,16 @@ joined-back : (fs : List (List ℕ)) → AllRecords fs → pieces (joined fs) �
 unfolding piecesFrom
 joined-back fs h = ap pieces (sym (append-nil (joined fs))) ∙ joined-pieces fs [] h ∙ ap (λ x. record { records = x; rest = [] }) (append-nil fs)
 
--- from any panel in which no half waits
-pub struck-from : (p : Panel) → p .half ≡ Empty → (log : List ℕ) → StruckFrom ours p log
-struck-from p n log =
-    let m = machineOf ours in
+-- of the engine, from any panel in which no half waits
+engine-struck : (p : Panel) → p .half ≡ Empty → (log : List ℕ) → StruckFrom engine p log
+engine-struck p n log =
+    let m = machineOf engine in
     let s : Struck m p (frames log) = striking m mirror-laws p n (frames log) in
     let back = joined-back (struck m p (frames log)) (records-some (s .in-order) (frames-are-records log)) in
-    let read : frames (struckLog ours p log) ≡ struck m p (frames log) = ap (λ (x : Pieces). x .records) back in
+    let read : frames (struckLog engine p log) ≡ struck m p (frames log) = ap (λ (x : Pieces). x .records) back in
     record {
-      taken = taken-stays ours (answersBy ours p log);
-      others = only-taken-or-held ours (answersBy ours p log);
+      taken = taken-stays engine (answersBy engine p log);
+      others = only-taken-or-held engine (answersBy engine p log);
       records = read;
       whole = ap (λ (x : Pieces). x .rest) back;
       in-order = subst (λ x. Sublistᴰ x (frames log)) (sym read) (s .in-order);
@@ -102,9 +106,43 @@ struck-from p n log =
       twice = ap (λ x. joined (struck m p x)) read ∙ ap joined (s .twice);
     }
 
+-- some of the records that carry bytes carry bytes
+data-some : {a b : List (List ℕ)} → Sublistᴰ a b → AllData b → AllData a
+data-some Sublistᴰ·slnil h = tt
+data-some (Sublistᴰ·cons s) h = data-some s (h .1)
+data-some (Sublistᴰ·cons-cons e s) h = (subst (λ f. dataOf f < 256) (sym e) (h .0), data-some s (h .1))
+
+-- what is claimed of the engine holds of the table
+as-table : (p : Panel) (log : List ℕ) → Proper p log → StruckFrom engine p log → StruckFrom ours p log
+as-table p log c h =
+    let s = struckLog engine p log in
+    let l = proper-lasts c in
+    let d : AllData (frames s) = data-some (h .in-order) (frames-data log (c .bytes)) in
+    let a = same-answers p log c in
+    let b : answersBy engine p s ≡ answersBy ours p s = same-run (frames s) p l d in
+    let k : keptBy engine p log ≡ keptBy ours p log = ap (unstruck (machineOf ours .sort)) a in
+    let t : s ≡ struckLog ours p log = ap (λ x. joined (events x)) k in
+    record {
+      taken = ap takens (sym k) ∙ h .taken ∙ ap takens a;
+      others = subst TakenOrHeld k (h .others);
+      records = ap frames (sym t) ∙ h .records ∙ ap events k;
+      whole = ap tail (sym t) ∙ h .whole;
+      in-order = subst (λ x. Sublistᴰ (frames x) (frames log)) t (h .in-order);
+      answers = ap (answersBy ours p) (sym t) ∙ sym b ∙ h .answers ∙ k;
+      panel =
+          ap (λ x. settledPanel (panelBy ours p x)) (sym t) ∙ ap settledPanel (sym (same-final (frames s) p l d)) ∙ h .panel
+          ∙ ap settledPanel (same-panel p log c);
+      twice =
+          ap (struckLog ours p) (sym t) ∙ ap (λ x. joined (events (unstruck (machineOf ours .sort) x))) (sym b) ∙ h .twice ∙ t;
+    }
+
+-- from any proper panel in which no half waits
+pub struck-from : (p : Panel) → p .half ≡ Empty → (log : List ℕ) → Proper p log → StruckFrom ours p log
+struck-from p n log c = as-table p log c (engine-struck p n log)
+
 -- DEMAND 3, SECOND HALF
 pub strike : Strikes ours
-strike reset long short log = struck-from (freshPanel reset long short) refl log
+strike reset long short log t = struck-from (freshPanel reset long short) refl log (typed-proper t)
 
 -- and so of two runs: the same sheet and the same busy end, and the struck log is not cut
 pub record SameRun (p : Panel) (log : List ℕ) : Type 0 where
@@ -113,13 +151,16 @@ pub record SameRun (p : Panel) (log : List ℕ) : Type 0 where
   pub busy : runOf p (struckLog ours p log) .panel .busy ≡ runOf p log .panel .busy
   pub cut : runOf p (struckLog ours p log) .cut ≡ false
 
-pub strike-run : (reset long short : ℕ) (log : List ℕ) → SameRun (freshPanel reset long short) log
+pub strike-run : (reset long short : ℕ) (log : List ℕ) → Typed reset long short log → SameRun (freshPanel reset long short) log
 unfolding patternFits runOf
-strike-run reset long short log =
+strike-run reset long short log t =
     let p = freshPanel reset long short in
-    let s = strike reset long short log in
-    let e : settledPanel (runOf p (struckLog ours p log) .panel) ≡ settledPanel (runOf p log .panel) =
-    ap settledPanel (of-run p (struckLog ours p log) refl .panel) ∙ s .panel ∙ sym (ap settledPanel (of-run p log refl .panel)) in
+    let s = strike reset long short log t in
+    let struck = struckLog ours p log in
+    let d : AllData (frames struck) = data-some (s .in-order) (frames-data log (t .bytes)) in
+    let one : runOf p struck .panel ≡ panelBy ours p struck = of-engine p struck refl .panel ∙ same-final (frames struck) p (typed-lasts t) d in
+    let e : settledPanel (runOf p struck .panel) ≡ settledPanel (runOf p log .panel) =
+    ap settledPanel one ∙ s .panel ∙ sym (ap settledPanel (of-run p log (typed-proper t) .panel)) in
     record {
       panel = e;
       sheet = ap (λ (x : Panel). x .sheet) e;

@@ -13,16 +13,17 @@ use Rattle.mirror.proofs.half.Half.fits as half·fits
 use Rattle.mirror.proofs.panel.Panel.fresh as panel·fresh
 use Rattle.mirror.proofs.panel.Panel.sound as panel·sound
 use Rattle.mirror.proofs.panel.Panel.«record» as panel·record
-use Rattle.mirror.proofs.panel.Panel.turned as panel·turned
 use Rattle.mirror.proofs.stream.Stream.start as stream·start
 use Rattle.mirror.proofs.stream.Stream.next as stream·next
 use Rattle.mirror.proofs.stream.Stream.feed as stream·feed
 use Rattle.mirror.proofs.stream.Stream.end as stream·end
 use Rattle.mirror.proofs.panel.Panel.run as panel·run
-use Rattle.mirror.proofs.totals.raise as totals·raise
-use Rattle.mirror.proofs.totals.Totals.start as totals·start
-use Rattle.mirror.proofs.totals.Totals.count as totals·count
-use Rattle.mirror.proofs.totals.Totals.consume as totals·consume
+use Rattle.mirror.proofs.stream.Reply.refusal as reply·refusal
+use Rattle.mirror.proofs.stream.Run.refusal as run·refusal
+use Rattle.mirror.proofs.stream.Stream.panel as stream·panel
+use Rattle.mirror.proofs.stream.Stream.number as stream·number
+use Rattle.mirror.proofs.stream.Stream.front as stream·front
+use Rattle.mirror.proofs.count.raise as count·raise
 use Rattle.demands.specs.Unique.{DeterminesAnswer, answer, equation}
 
 module _ {M : Type 1} (𝓤 : URA M) (H : Heap 𝓤) (A : Atoms 𝓤) (mem : Memory → SProp 𝓤) (run : Routine → Fun 𝓤) where
@@ -46,10 +47,6 @@ module _ {M : Type 1} (𝓤 : URA M) (H : Heap 𝓤) (A : Atoms 𝓤) (mem : Mem
   pub panel-record : DeterminesAnswer 𝓤 panel·record.ended (panel·record.clauses 𝓤 H A mem run)
   panel-record = answer 𝓤 _ _ _ (λ κs a g r e. refl) (λ κs a r s e f p q. p .is ∙ sym (q .is))
 
-  -- mirror::panel::Panel::turned: r ≡ answered (frameOf (now (log .entry))) self
-  pub panel-turned : DeterminesAnswer 𝓤 panel·turned.ended (panel·turned.clauses 𝓤 H A mem run)
-  panel-turned = equation 𝓤 _ _ _ (λ κs a g r e. refl)
-
   -- mirror::stream::Stream::start: r ≡ startOf panel
   pub stream-start : DeterminesAnswer 𝓤 stream·start.ended (stream·start.clauses 𝓤 H A mem run)
   stream-start = equation 𝓤 _ _ _ (λ κs a g r e. refl)
@@ -58,30 +55,38 @@ module _ {M : Type 1} (𝓤 : URA M) (H : Heap 𝓤) (A : Atoms 𝓤) (mem : Mem
   pub stream-feed : DeterminesAnswer 𝓤 stream·feed.ended (stream·feed.clauses 𝓤 H A mem run)
   stream-feed = equation 𝓤 _ _ _ (λ κs a g r e. refl)
 
-  -- mirror::stream::Stream::next: r ≡ nextOf self (now (part .entry))
+  -- mirror::stream::Stream::next: Replies self (now (part .entry)) r
   pub stream-next : DeterminesAnswer 𝓤 stream·next.ended (stream·next.clauses 𝓤 H A mem run)
-  stream-next = equation 𝓤 _ _ _ (λ κs a g r e. refl)
+  stream-next = answer 𝓤 _ _ _ (λ κs a g r e. refl) (λ κs a r s e f p q. p .is ∙ sym (q .is))
 
   -- mirror::stream::Stream::end: r ≡ endOf self
   pub stream-end : DeterminesAnswer 𝓤 stream·end.ended (stream·end.clauses 𝓤 H A mem run)
   stream-end = equation 𝓤 _ _ _ (λ κs a g r e. refl)
 
-  -- mirror::panel::Panel::run: r ≡ runOf self (now (log .entry))
+  -- mirror::panel::Panel::run: Runs self (now (log .entry)) r
   pub panel-run : DeterminesAnswer 𝓤 panel·run.ended (panel·run.clauses 𝓤 H A mem run)
-  panel-run = equation 𝓤 _ _ _ (λ κs a g r e. refl)
+  panel-run = answer 𝓤 _ _ _ (λ κs a g r e. refl) (λ κs a r s e f p q. p .is ∙ sym (q .is))
 
-  -- mirror::totals::raise: r ≡ raised n
-  pub raise : DeterminesAnswer 𝓤 totals·raise.ended (totals·raise.clauses 𝓤 H A mem run)
+  -- mirror::count::raise: r ≡ raised n
+  pub raise : DeterminesAnswer 𝓤 count·raise.ended (count·raise.clauses 𝓤 H A mem run)
   raise = equation 𝓤 _ _ _ (λ κs a g r e. refl)
 
-  -- mirror::totals::Totals::start: r ≡ started panel
-  pub totals-start : DeterminesAnswer 𝓤 totals·start.ended (totals·start.clauses 𝓤 H A mem run)
-  totals-start = equation 𝓤 _ _ _ (λ κs a g r e. refl)
+  -- mirror::stream::Reply::refusal: r ≡ endNumber self
+  pub reply-refusal : DeterminesAnswer 𝓤 reply·refusal.ended (reply·refusal.clauses 𝓤 H A mem run)
+  reply-refusal = equation 𝓤 _ _ _ (λ κs a g r e. refl)
 
-  -- mirror::totals::Totals::count: t ≡ counted self r
-  pub totals-count : DeterminesAnswer 𝓤 totals·count.ended (totals·count.clauses 𝓤 H A mem run)
-  totals-count = equation 𝓤 _ _ _ (λ κs a g r e. refl)
+  -- mirror::stream::Run::refusal: r ≡ runNumber self
+  pub run-refusal : DeterminesAnswer 𝓤 run·refusal.ended (run·refusal.clauses 𝓤 H A mem run)
+  run-refusal = equation 𝓤 _ _ _ (λ κs a g r e. refl)
 
-  -- mirror::totals::Totals::consume: r ≡ consumedOf self (now (log .entry))
-  pub totals-consume : DeterminesAnswer 𝓤 totals·consume.ended (totals·consume.clauses 𝓤 H A mem run)
-  totals-consume = equation 𝓤 _ _ _ (λ κs a g r e. refl)
+  -- mirror::stream::Stream::panel: r ≡ panelIn self
+  pub stream-panel : DeterminesAnswer 𝓤 stream·panel.ended (stream·panel.clauses 𝓤 H A mem run)
+  stream-panel = equation 𝓤 _ _ _ (λ κs a g r e. refl)
+
+  -- mirror::stream::Stream::number: r ≡ numberIn self
+  pub stream-number : DeterminesAnswer 𝓤 stream·number.ended (stream·number.clauses 𝓤 H A mem run)
+  stream-number = equation 𝓤 _ _ _ (λ κs a g r e. refl)
+
+  -- mirror::stream::Stream::front: r ≡ frontOf self (now (part .entry))
+  pub stream-front : DeterminesAnswer 𝓤 stream·front.ended (stream·front.clauses 𝓤 H A mem run)
+  stream-front = equation 𝓤 _ _ _ (λ κs a g r e. refl)

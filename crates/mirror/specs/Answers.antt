@@ -1,10 +1,12 @@
 -- Records that follow each other, each answered by the panel that the one before it left.
-use Prim.Native.Nat.{ℕ}
+use Prim.Native.Nat.{ℕ, _<_}
 use mathlib.Core.Path.{_≡_}
-use mathlib.Core.Bool.{Bool, false, _||_}
+use mathlib.Core.Bool.{Bool, true, false, _||_}
 use mathlib.Core.List.{List, [], _∷_}
+use lib.ListN.{getD}
 use lib.Dec.{leb, eqb}
 use Rattle.mirror.specs.Answer.{numberOf}
+use Rattle.mirror.specs.Panel.{soundPanel}
 use Rattle.mirror.specs.Table.{recordOf}
 use Rattle.mirror.specs.declared.panel.Panel.{Panel}
 
@@ -29,3 +31,22 @@ clocked n = leb n 4 || eqb n 7
 abbrev pub AllUnclocked : Panel → List (List ℕ) → Type 0
 AllUnclocked p [] = Unit {0}
 AllUnclocked p (f ∷ fs) = (clocked (answerTo p f) ≡ false) × AllUnclocked (panelAfter p f) fs
+
+-- a log is made of bytes
+abbrev pub Bytes : List ℕ → Type 0
+Bytes s = (i : ℕ) → getD s i 0 < 256
+
+-- what the types hold: three times below 65,536, and a log made of bytes
+pub record Typed (reset long short : ℕ) (log : List ℕ) : Type 0 where
+  pub reset-fits : reset < 65536
+  pub long-fits : long < 65536
+  pub short-fits : short < 65536
+  pub bytes : Bytes log
+
+-- and a panel that is sound, of such times
+pub record Proper (p : Panel) (log : List ℕ) : Type 0 where
+  pub sound : soundPanel p ≡ true
+  pub reset-fits : p .times .reset < 65536
+  pub long-fits : p .times .long < 65536
+  pub short-fits : p .times .short < 65536
+  pub bytes : Bytes log

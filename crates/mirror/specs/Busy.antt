@@ -2,25 +2,27 @@
 -- A write or data read, whole or as two matching halves, is ignored exactly when the chip was busy as it began.
 use Prim.Native.Nat.{ℕ, _+_, _*_, _/_}
 use mathlib.Core.Path.{_≡_}
-use mathlib.Core.Bool.{Bool, true, false, not, _&&_, _||_}
+use mathlib.Core.Bool.{Bool, true, false, not, _&&_, _||_, Bool·beq}
 use mathlib.Core.List.{List, [], _∷_}
 use lib.Dec.{ltb, eqb}
 use Rattle.laws.specs.Pick.{pick}
-use Rattle.log.specs.Frame.{timeOf, dataOf, rsOf, rwOf, isTransfer, isReset}
+use Rattle.log.specs.Frame.{timeOf, dataOf, rsOf, rwOf, isTransfer, isReset, cutAt, badAt}
 use Rattle.log.specs.Frames.{frames}
 use Rattle.chip.specs.Instruction.{bit}
 use Rattle.mirror.specs.Panel.{freshPanel}
-use Rattle.mirror.specs.Answers.{answerTo, panelAfter, clocked}
+use Rattle.mirror.specs.Table.{isStatus}
+use Rattle.mirror.specs.Answers.{answerTo, panelAfter, clocked, Typed}
 use Rattle.mirror.specs.declared.panel.Panel.{Panel}
 
--- a record's bytes, the number that it is answered with, and the busy end of the panel before it
+-- a record's bytes, the number that it is answered with, and the busy end and last time of the panel before it
 pub record Entry : Type 0 where
   pub bytes : List ℕ
   pub number : ℕ
   pub until : ℕ
+  pub last : ℕ
 
 abbrev pub entryOf : Panel → List ℕ → Entry
-entryOf p log = record { bytes = log; number = answerTo p log; until = p .busy }
+entryOf p log = record { bytes = log; number = answerTo p log; until = p .busy; last = p .last }
 
 -- records that follow each other
 abbrev pub entriesFrom : Panel → List (List ℕ) → List Entry
@@ -71,16 +73,24 @@ pub record Decided (begun e : Entry) : Type 0 where
   pub own : eqb (e .number) 3 ≡ wasBusy begun
   pub began : eqb (begun .number) 3 ≡ wasBusy begun
 
--- a transfer answered 0, 3 or 7: a write or data read that is complete, or ignored
-abbrev pub isDecided : Entry → Bool
-isDecided e = (eqb (e .number) 0 || eqb (e .number) 3 || eqb (e .number) 7) && isTransfer (e .bytes)
+-- whole, or matching the first half that is open in RS and R/W
+abbrev pub matches : Open → Entry → Bool
+matches none e = true
+matches (first f) e = Bool·beq (rsOf (f .bytes)) (rsOf (e .bytes)) && Bool·beq (rwOf (f .bytes)) (rwOf (e .bytes))
+
+-- a usable write or data read, whatever it is answered: a good record, in time, no status read, whole or matching
+abbrev pub isUsable : Open → Entry → Bool
+isUsable o e =
+    not (cutAt (e .bytes)) && not (badAt (e .bytes)) && isTransfer (e .bytes) && not (ltb (timeOf (e .bytes)) (e .last)) && not (isStatus (e .bytes))
+    && matches o e
 
 -- so for every such entry, read from a width and an open first half on
 abbrev pub AllDecided : Bool → Open → List Entry → Type 0
 AllDecided eight o [] = Unit {0}
 AllDecided eight o (e ∷ es) =
-    (isDecided e ≡ true → Decided (begunBy o e) e) × AllDecided (widthAfter eight o e) (openAfter eight o e) es
+    (isUsable o e ≡ true → Decided (begunBy o e) e) × AllDecided (widthAfter eight o e) (openAfter eight o e) es
 
 -- and so for every log from a fresh panel, at width 8 with no half open
 abbrev pub IgnoredExactlyWhenBusy : Type 0
-IgnoredExactlyWhenBusy = (reset long short : ℕ) (log : List ℕ) → AllDecided true none (entriesFrom (freshPanel reset long short) (frames log))
+IgnoredExactlyWhenBusy =
+    (reset long short : ℕ) (log : List ℕ) → Typed reset long short log → AllDecided true none (entriesFrom (freshPanel reset long short) (frames log))

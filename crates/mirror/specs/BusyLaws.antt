@@ -7,21 +7,22 @@ use native.Mathlib.Nat.{mod-eq-of-lt}
 use lib.Dec.{ltb, leb, eqb}
 use borrow.Author.Tests.{ltb-true, leb-true, leb-false, lt-ltb, le-ltb, not-true}
 use Rattle.laws.specs.Pick.{pick}
-use Rattle.log.specs.Frame.{timeOf, dataOf, rsOf, rwOf}
+use Rattle.log.specs.Frame.{timeOf, dataOf, rsOf, rwOf, isTransfer, cutAt, badAt}
 use Rattle.log.specs.FrontLaws.{or-left, or-right}
 use Rattle.log.specs.Frames.{frames}
 use Rattle.chip.specs.Step.{obeyed, written, passed}
 use Rattle.chip.specs.WidthLaws.{obeyed-width, written-width}
-use Rattle.mirror.specs.Panel.{freshPanel, halfFits}
+use Rattle.mirror.specs.Panel.{freshPanel, halfFits, soundPanel}
 use Rattle.mirror.specs.Words.{joinedOf, free}
-use Rattle.mirror.specs.SoundParts.{parts}
+use Rattle.mirror.specs.SoundParts.{parts, whole}
 use Rattle.mirror.specs.Table.{waits, isFirst, differs, isStatus, busyAt, isNone, byteOf, sourceOf, heldHalf, panelFor}
 use Rattle.mirror.specs.Answers.{answerTo, panelAfter}
 use Rattle.mirror.specs.TableCase.{Case, answer-case, each-row}
 use Rattle.mirror.specs.TableCase.Case.{unsound, cut, bad, back, reset, torn, ignored, nothing, held, status, taken}
 use Rattle.mirror.specs.RecordKeeps.{not-both}
-use Rattle.mirror.specs.HalfLaws.{status-minded}
-use Rattle.mirror.specs.Busy.{Entry, entryOf, entriesFrom, Open, begunBy, byteBy, widthBy, widthAfter, opens, openAfter, wasBusy, Decided, isDecided, AllDecided, IgnoredExactlyWhenBusy}
+use Rattle.mirror.specs.SoundLaws.{Lasts, record-lasts}
+use Rattle.mirror.specs.TypedLaws.{AllData, frames-data, typed-lasts}
+use Rattle.mirror.specs.Busy.{Entry, entryOf, entriesFrom, Open, begunBy, byteBy, widthBy, widthAfter, opens, openAfter, wasBusy, Decided, matches, isUsable, AllDecided, IgnoredExactlyWhenBusy}
 use Rattle.mirror.specs.Busy.Open.{none, first}
 use Rattle.mirror.specs.declared.half.Half.{Half}
 use Rattle.mirror.specs.declared.half.Half.the-variants.{Empty, Ignored, Waiting}
@@ -48,18 +49,54 @@ not-free time end = by (leb end time) refl where
   by true e = sym (le-ltb time end (leb-true end time e))
   by false e = sym (lt-ltb time end (leb-false end time e))
 
+untorn : (r w : Bool) {log : List ℕ} (e : Entry) → e .bytes ≡ log → (Bool·beq r (rsOf (e .bytes)) && Bool·beq w (rwOf (e .bytes))) ≡ true →
+    (not (Bool·beq r (rsOf log)) || not (Bool·beq w (rwOf log))) ≡ false
+untorn r w e i m =
+    let x = Bool·beq r (rsOf (e .bytes)) in
+    let y = Bool·beq w (rwOf (e .bytes)) in
+    ap (λ s. not (Bool·beq r (rsOf s)) || not (Bool·beq w (rwOf s))) (sym i) ∙ ap (λ b. not b || not y) (and-first x y m) ∙ ap not (and-second x y m)
+
+-- what makes a transfer usable, part by part
+record Fit (o : Open) (e : Entry) : Type 0 where
+  uncut : cutAt (e .bytes) ≡ false
+  good : badAt (e .bytes) ≡ false
+  transfer : isTransfer (e .bytes) ≡ true
+  in-time : ltb (timeOf (e .bytes)) (e .last) ≡ false
+  unlike : isStatus (e .bytes) ≡ false
+  pair : matches o e ≡ true
+
+fits : (o : Open) (e : Entry) → isUsable o e ≡ true → Fit o e
+fits o e u =
+    let a = not (cutAt (e .bytes)) in
+    let b = not (badAt (e .bytes)) in
+    let c = isTransfer (e .bytes) in
+    let d = not (ltb (timeOf (e .bytes)) (e .last)) in
+    let s = not (isStatus (e .bytes)) in
+    let u₁ = and-first (a && b && c && d && s) (matches o e) u in
+    let u₂ = and-first (a && b && c && d) s u₁ in
+    let u₃ = and-first (a && b && c) d u₂ in
+    let u₄ = and-first (a && b) c u₃ in
+    record {
+      uncut = not-true (cutAt (e .bytes)) (and-first a b u₄);
+      good = not-true (badAt (e .bytes)) (and-second a b u₄);
+      transfer = and-second (a && b) c u₃;
+      in-time = not-true (ltb (timeOf (e .bytes)) (e .last)) (and-second (a && b && c) d u₂);
+      unlike = not-true (isStatus (e .bytes)) (and-second (a && b && c && d) s u₁);
+      pair = and-second (a && b && c && d && s) (matches o e) u;
+    }
+
 -- an open first half agrees with the half that waits
 pub data Agrees : Open → Half → Type 0 where
   closed : Agrees none Empty
-  deaf : {f : Entry} {rs wr : Bool} → eqb (f .number) 3 ≡ true → wasBusy f ≡ true → Agrees (first f) (Ignored rs wr)
-  kept : {f : Entry} {rs wr : Bool} {nibble : ℕ} →
-      eqb (f .number) 3 ≡ false → ((wr && not rs) ≡ false → wasBusy f ≡ false) → (wr ≡ false → nibble ≡ dataOf (f .bytes) / 16) →
-      Agrees (first f) (Waiting rs wr nibble)
+  deaf : {f : Entry} → eqb (f .number) 3 ≡ true → wasBusy f ≡ true → Agrees (first f) (Ignored (rsOf (f .bytes)) (rwOf (f .bytes)))
+  kept : {f : Entry} {nibble : ℕ} →
+      eqb (f .number) 3 ≡ false → (isStatus (f .bytes) ≡ false → wasBusy f ≡ false) → (rwOf (f .bytes) ≡ false → nibble ≡ dataOf (f .bytes) / 16) →
+      Agrees (first f) (Waiting (rsOf (f .bytes)) (rwOf (f .bytes)) nibble)
 
 module _ (p : Panel) (log : List ℕ) where
   -- the entry if it were answered with a number
   abbrev entry : ℕ → Entry
-  entry n = record { bytes = log; number = n; until = p .busy }
+  entry n = record { bytes = log; number = n; until = p .busy; last = p .last }
 
   -- a complete write or data read is decided as it began
   judged : (n : ℕ) (deafened : Bool) → eqb n 3 ≡ deafened → isStatus log ≡ false → (o : Open) {half : Half} → Agrees o half →
@@ -69,35 +106,42 @@ module _ (p : Panel) (log : List ℕ) where
       let t = e ∙ sym b ∙ ap (λ c. not c && not (free (timeOf log) p)) s ∙ not-free (timeOf log) (p .busy) in
       record { own = t; began = t }
   judged n x e s (first f) (deaf three busy) d b = record { own = e ∙ sym b ∙ sym busy; began = three ∙ sym busy }
-  judged n x e s (first f) (kept {rs = r} {wr = w} three busy nib) d b =
+  judged n x e s (first f) (kept three busy nib) d b =
+      let r = rsOf (f .bytes) in
+      let w = rwOf (f .bytes) in
       let i = equal-bits r (rsOf log) (or-left (not (Bool·beq r (rsOf log))) (not (Bool·beq w (rwOf log))) d) in
       let j = equal-bits w (rwOf log) (or-right (not (Bool·beq r (rsOf log))) (not (Bool·beq w (rwOf log))) d) in
       let idle = busy (ap (λ c. c && not r) j ∙ ap (λ c. rwOf log && not c) i ∙ s) in
       record { own = e ∙ sym b ∙ sym idle; began = three ∙ sym idle }
 
-  no-status : isNone p log ≡ true → isStatus log ≡ false
-  no-status e =
-      let w = and-second (not (isFirst p) && not (rsOf log)) (not (rwOf log)) (and-first (not (isFirst p) && not (rsOf log) && not (rwOf log)) (eqb (byteOf p log) 0) e) in
-      ap (λ c. c && not (rsOf log)) (not-true (rwOf log) w)
+  -- a second half that matches does not tear the pair
+  whole-pair : (o : Open) (e : Entry) {half : Half} → Agrees o half → e .bytes ≡ log → matches o e ≡ true → differs half (rsOf log) (rwOf log) ≡ false
+  whole-pair none e closed i m = refl
+  whole-pair (first f) e (deaf three busy) i m = untorn (rsOf (f .bytes)) (rwOf (f .bytes)) e i m
+  whole-pair (first f) e (kept three busy nib) i m = untorn (rsOf (f .bytes)) (rwOf (f .bytes)) e i m
 
-  minded-status : (b : Bool) → isStatus log ≡ b → answerTo p log ≡ 3 → isStatus log ≡ false
-  minded-status true e z = absurd (status-minded p log e z)
-  minded-status false e z = e
+  -- a usable transfer is judged whatever it is answered
+  decided : (o : Open) → Agrees o (p .half) → soundPanel p ≡ true → isUsable o (entryOf p log) ≡ true → Decided (begunBy o (entryOf p log)) (entryOf p log)
+  decided o h sound u = by (answerTo p log) (answer-case p log)
+    where
+      fit : Fit o (entryOf p log)
+      fit = fits o (entryOf p log) u
 
-  decided : (o : Open) → Agrees o (p .half) → isDecided (entryOf p log) ≡ true → Decided (begunBy o (entryOf p log)) (entryOf p log)
-  decided o h = by (answerTo p log) refl (answer-case p log) where
-    by : (n : ℕ) → answerTo p log ≡ n → Case p log n → isDecided (entry n) ≡ true → Decided (begunBy o (entry n)) (entry n)
-    by n z (unsound a) e = absurd (false≢true e)
-    by n z (cut a b) e = absurd (false≢true e)
-    by n z (bad a b c) e = absurd (false≢true e)
-    by n z (back a b c d) e = absurd (false≢true e)
-    by n z (reset c a) e = absurd (not-both log e a)
-    by n z (torn c a b) e = absurd (false≢true e)
-    by n z (ignored c a) e = judged 3 true refl (minded-status (isStatus log) refl z) o h (c .whole) a
-    by n z (nothing c a b) e = judged 7 false refl (no-status b) o h (c .whole) a
-    by n z (held c a) e = absurd (false≢true e)
-    by n z (status c a b) e = absurd (false≢true e)
-    by n z (taken c a b) e = judged 0 false refl b o h (c .paired .whole) (c .minded)
+      whole : differs (p .half) (rsOf log) (rwOf log) ≡ false
+      whole = whole-pair o (entryOf p log) h refl (fit .pair)
+
+      by : (n : ℕ) → Case p log n → Decided (begunBy o (entry n)) (entry n)
+      by n (unsound a) = absurd (false≢true (sym a ∙ sound))
+      by n (cut a b) = absurd (false≢true (sym (fit .uncut) ∙ b))
+      by n (bad a b c) = absurd (false≢true (sym (fit .good) ∙ c))
+      by n (back a b c d) = absurd (false≢true (sym (fit .in-time) ∙ d))
+      by n (reset c a) = absurd (not-both log (fit .transfer) a)
+      by n (torn c a b) = absurd (false≢true (sym whole ∙ b))
+      by n (ignored c a) = judged 3 true refl (fit .unlike) o h whole a
+      by n (nothing c a b) = judged 7 false refl (fit .unlike) o h whole a
+      by n (held c a) = judged 1 false refl (fit .unlike) o h whole (c .minded)
+      by n (status c a b) = absurd (false≢true (sym (fit .unlike) ∙ b))
+      by n (taken c a b) = judged 0 false refl (fit .unlike) o h whole (c .minded)
 
   -- and the half that waits afterwards agrees with the one that is open
   ended : (eight : Bool) (o : Open) (n : ℕ) → (eqb n 1 || eqb n 3) ≡ false → Agrees (pick (opens eight o (entry n)) (first (entry n)) none) Empty
@@ -108,7 +152,7 @@ module _ (p : Panel) (log : List ℕ) where
       Agrees (pick (opens eight o (entry 3)) (first (entry 3)) none) (pick (not eight && not (waits half)) (Ignored (rsOf log) (rwOf log)) Empty)
   missed true none closed b = closed
   missed false none closed b =
-      deaf refl (sym (not-free (timeOf log) (p .busy)) ∙ and-second (not (isStatus log)) (not (free (timeOf log) p)) b)
+      deaf {f = entry 3} refl (sym (not-free (timeOf log) (p .busy)) ∙ and-second (not (isStatus log)) (not (free (timeOf log) p)) b)
   missed true (first f) (deaf three busy) b = closed
   missed false (first f) (deaf three busy) b = closed
   missed eight (first f) (kept three busy nib) b = absurd (false≢true b)
@@ -118,7 +162,7 @@ module _ (p : Panel) (log : List ℕ) where
       Agrees (pick (opens eight o (entry 1)) (first (entry 1)) none) (heldHalf p log)
   begun true o h f b = absurd (false≢true f)
   begun false none closed f b =
-      kept refl
+      kept {f = entry 1} refl
       (λ s. sym (not-free (timeOf log) (p .busy)) ∙ sym (ap (λ c. not c && not (free (timeOf log) p)) s) ∙ b)
       (λ w. ap (λ c. pick c (sourceOf p log % 16) (dataOf log / 16)) w)
   begun false (first e) (deaf three busy) f b = absurd (false≢true f)
@@ -150,7 +194,9 @@ module _ (p : Panel) (log : List ℕ) where
   byte-same false none closed fits f b d w = absurd (false≢true (sym f))
   byte-same eight (first e) (deaf three busy) fits f b d w = absurd (false≢true (sym b))
   byte-same true (first e) (kept three busy nib) fits f b d w = absurd (false≢true fits)
-  byte-same false (first e) (kept {rs = r} {wr = v} {nibble = n} three busy nib) fits f b d w =
+  byte-same false (first e) (kept {nibble = n} three busy nib) fits f b d w =
+      let r = rsOf (e .bytes) in
+      let v = rwOf (e .bytes) in
       let j = equal-bits v (rwOf log) (or-right (not (Bool·beq r (rsOf log))) (not (Bool·beq v (rwOf log))) d) in
       ap (λ x. x * 16 + dataOf log / 16) (sym (nib (j ∙ w)) ∙ sym (mod-eq-of-lt (ltb-true n 16 fits)))
 
@@ -184,16 +230,17 @@ module _ (p : Panel) (log : List ℕ) where
         (step (rsOf log) (rwOf log) b (byte-same eight o h (parts p (c .paired .heard .sound) .half) a (c .minded) (c .paired .whole)))
 
 -- records that follow each other
-all-decided : (fs : List (List ℕ)) (p : Panel) (o : Open) → Agrees o (p .half) → AllDecided (p .sheet .registers .eight) o (entriesFrom p fs)
-all-decided [] p o h = tt
-all-decided (f ∷ fs) p o h =
+all-decided : (fs : List (List ℕ)) (p : Panel) (o : Open) → Agrees o (p .half) → Lasts p → AllData fs → AllDecided (p .sheet .registers .eight) o (entriesFrom p fs)
+all-decided [] p o h l d = tt
+all-decided (f ∷ fs) p o h l d =
     let e = entryOf p f in
     let eight = p .sheet .registers .eight in (
-      decided p f o h,
+      decided p f o h (whole p (l .sound)),
       subst (λ b. AllDecided b (openAfter eight o e) (entriesFrom (panelAfter p f) fs)) (sym (width p f o h))
-          (all-decided fs (panelAfter p f) (openAfter eight o e) (agrees p f o h)),
+          (all-decided fs (panelAfter p f) (openAfter eight o e) (agrees p f o h) (record-lasts p f (d .0) l) (d .1)),
     )
 
 -- every log from a fresh panel
 pub ignored-exactly-when-busy : IgnoredExactlyWhenBusy
-ignored-exactly-when-busy r l s log = all-decided (frames log) (freshPanel r l s) none closed
+ignored-exactly-when-busy r l s log t =
+    all-decided (frames log) (freshPanel r l s) none closed (typed-lasts t) (frames-data log (t .bytes))

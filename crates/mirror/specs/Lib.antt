@@ -26,7 +26,8 @@ pub mod TableCase
 pub mod RecordKeeps
 pub mod HalfLaws
 pub mod SoundLaws
+pub mod TypedLaws
 pub mod Busy
 pub mod BusyLaws
 pub mod BusyCases
-pub mod RunRecords
+pub mod AskedLaws

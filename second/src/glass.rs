@@ -1,0 +1,191 @@
+//! Trials for `wall`: a log that sets the glass on purpose, a font of random
+//! bytes, so that a turned or mirrored glyph shows, and often a time to look at.
+
+use crate::cases;
+use crate::generator::{self, Trial};
+use crate::lend::{files, text, Group, Word};
+use crate::log::{self, TIME_LIMIT};
+use crate::panel::number::{BACK, BAD};
+use crate::panel::{Panel, Times};
+use crate::picture::FONT_SIZE;
+use crate::random::Random;
+use crate::sender::{self, Scene};
+use crate::start::BLOCK;
+
+/// D, C and B in all the ways in which the cursor shows or does not.
+const SCREENS: [u8; 8] = [6, 5, 7, 2, 4, 6, 5, 3];
+
+fn random_of(seed: u64, number: u64) -> Random {
+    Random::new(seed ^ 0x61A5_5000, number)
+}
+
+/// Shift and screen go by number, so that each meets each.
+fn scene(random: &mut Random, number: u64) -> Scene {
+    Scene {
+        shift: (number % 16) as u8,
+        screen: SCREENS[(number / 16 % 8) as usize],
+        first_code: (number / 2 * 16) as u8,
+        cursor: random.pick(&[0x40, 0x80]) | random.byte() & 0x1F,
+    }
+}
+
+pub fn trial(seed: u64, number: u64) -> Trial {
+    let mut random = random_of(seed, number);
+    let target = random.pick(&[0, 20, 60, 120]);
+    let scene = scene(&mut random, number);
+    let mut log = sender::send_glass(&mut random, target, scene);
+    match random.below(20) {
+        0..=2 => cut(&mut random, &mut log),
+        3 => log.clear(),
+        _ => {}
+    }
+    let at = random.chance(60).then(|| time_to_ask(&mut random, &log));
+    asked(&mut random, at, log)
+}
+
+/// Every shift with the cursor on, and every code: sixteen trials, so that
+/// these are not left to chance.
+pub fn shifts(seed: u64) -> Vec<Trial> {
+    let shown = |number: u64| {
+        let mut random = random_of(seed, 1_000_000 + number);
+        let screen = random.pick(&[5, 6, 7]);
+        let scene = Scene { screen, first_code: 16 * number as u8, ..scene(&mut random, number) };
+        let log = sender::send_glass(&mut random, 0, scene);
+        Trial { groups: words(&mut random, "ascii", None), log }
+    };
+    (0..16).map(shown).collect()
+}
+
+/// A log of more than two blocks, with a time that falls into the second or,
+/// for odd numbers, into a later one. Its first record is bad and of another length each time, so that
+/// a block ends anywhere in a record.
+pub fn long_trial(seed: u64, number: u64) -> Trial {
+    let mut random = random_of(!seed, number);
+    let mut log = log::write_record(9, &random.bytes(number as usize % 14));
+    let scene = scene(&mut random, number);
+    log.extend(sender::send_glass(&mut random, 5_500, scene));
+    let blocks = if number % 2 == 0 { 1..2 } else { 2..usize::MAX };
+    let later: Vec<u64> = moments(&log)
+        .iter()
+        .filter(|moment| moment.has_a_say && blocks.contains(&(moment.offset / BLOCK)))
+        .filter_map(|moment| moment.time)
+        .collect();
+    let time = random.pick(&later);
+    let at = random.pick(&[time, time, time.saturating_sub(1), time + 1]).min(TIME_LIMIT);
+    asked(&mut random, Some(at), log)
+}
+
+/// This log, asked for as it ends.
+pub fn whole_log(seed: u64, log: Vec<u8>) -> Trial {
+    asked(&mut random_of(seed, 0), None, log)
+}
+
+/// The example of docs/WALL.md with its font, and logs of hardly anything.
+pub fn example_and_edges() -> Vec<Trial> {
+    let log = [log::write_transfer(0, 0, 0x0E), log::write_transfer(40, 1, 0x57)].concat();
+    let cut = [log.clone(), vec![12, 0, 1]].concat();
+    let logs = [log.clone(), cut, Vec::new(), vec![12], log[..14].to_vec()];
+    let mut trials = Vec::new();
+    for log in logs {
+        for words in ["ascii", "pbm dark", "ascii at 0", "at 39 ascii", "at 40 pbm", "ascii at 281474976710656"] {
+            let groups = vec![text(words), files("font", vec![cases::wall_font()])];
+            trials.push(Trial { groups, log: log.clone() });
+        }
+    }
+    trials
+}
+
+/// Words that are refused, each with a font that is not.
+pub fn refused(seed: u64) -> Vec<Trial> {
+    let mut random = random_of(seed, 1);
+    let log = generator::short_night();
+    let font = files("font", vec![random.bytes(FONT_SIZE)]);
+    let wordings = [
+        "bogus", "ascii pbm", "pbm dark ascii", "ascii ascii", "dark pbm dark", "at", "at 1 at 1", "at -1", "at x",
+        "at 0x10", "at 281474976710657", "at 18446744073709551616", "ascii at dark", "--help", "records", "Ascii",
+        "frame 80", "times 1 2 3",
+    ];
+    let mut trials: Vec<Trial> =
+        wordings.map(|words| Trial { groups: vec![text(words), font.clone()], log: log.clone() }).into();
+    let other_fonts = [0, 1, 80, 1_919, 1_921, 3_840].map(|size| files("font", vec![random.bytes(size)]));
+    let no_font: [Group; 2] = [text("font"), vec![Word::Text("font".to_string()), Word::Missing]];
+    for group in other_fonts.into_iter().chain(no_font) {
+        trials.push(Trial { groups: vec![text("ascii"), group], log: log.clone() });
+    }
+    trials.push(Trial { groups: vec![text("ascii"), font.clone(), font.clone()], log: log.clone() });
+    trials.push(Trial { groups: vec![font, text("ascii at")], log });
+    trials
+}
+
+/// A question for this log, drawn in either way.
+fn asked(random: &mut Random, at: Option<u64>, log: Vec<u8>) -> Trial {
+    let form = random.pick(&["ascii", "ascii", "pbm"]);
+    Trial { groups: words(random, form, at), log }
+}
+
+/// The words, in any order, with a font of random bytes; half of them dark.
+fn words(random: &mut Random, form: &str, at: Option<u64>) -> Vec<Group> {
+    let mut groups = vec![text(form), files("font", vec![random.bytes(FONT_SIZE)])];
+    if random.flag() {
+        groups.push(text("dark"));
+    }
+    groups.extend(at.map(|time| text(&format!("at {time}"))));
+    let first = random.below(groups.len() as u64) as usize;
+    groups.rotate_left(first);
+    groups
+}
+
+/// Breaks the log off within, with whole records behind the cut.
+fn cut(random: &mut Random, log: &mut Vec<u8>) {
+    let records = log::records(log).0;
+    let kept = records.len() - random.below(records.len() as u64 / 2 + 1) as usize;
+    let mut broken: Vec<u8> = records[..kept].concat();
+    let way = random.below(4);
+    broken.extend(generator::cut_tail(random, way));
+    broken.extend(records[kept..].concat());
+    *log = broken;
+}
+
+/// A record of a log, and when it was.
+pub struct Moment {
+    /// Where in the log it begins.
+    pub offset: usize,
+    /// Answered 0 to 4 or 7.
+    pub has_a_say: bool,
+    /// The time that it tells, if it is long enough to tell one.
+    pub time: Option<u64>,
+    /// Afterwards.
+    pub busy_end: u64,
+}
+
+/// All records of a log, sent to a fresh panel.
+pub fn moments(log: &[u8]) -> Vec<Moment> {
+    let mut panel = Panel::fresh(Times::USUAL);
+    let mut moments = Vec::new();
+    let mut offset = 0;
+    for record in log::records(log).0 {
+        let has_a_say = !matches!(panel.answer(record).number, BACK | BAD);
+        let time = record.get(4..12).map(|bytes| u64::from_le_bytes(bytes.try_into().expect("8 bytes")));
+        moments.push(Moment { offset, has_a_say, time, busy_end: panel.busy_end });
+        offset += record.len();
+    }
+    moments
+}
+
+/// A time at, just before or just after a record's, good or not; a busy end;
+/// or one of the two ends of time.
+fn time_to_ask(random: &mut Random, log: &[u8]) -> u64 {
+    let moments = moments(log);
+    let wants_good = random.chance(75);
+    let sort: Vec<&Moment> =
+        moments.iter().filter(|moment| moment.has_a_say == wants_good && moment.time.is_some()).collect();
+    let ends = random.pick(&[0, TIME_LIMIT, TIME_LIMIT - 1]);
+    if sort.is_empty() || random.chance(12) {
+        return ends;
+    }
+    let moment = random.pick(&sort);
+    let time = moment.time.unwrap_or(ends);
+    let near = [time, time, time.saturating_sub(1), time.saturating_add(1)];
+    let busy = [moment.busy_end.saturating_sub(1), moment.busy_end];
+    random.pick(&[&near[..], &busy[..]].concat()).min(TIME_LIMIT)
+}

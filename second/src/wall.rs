@@ -1,0 +1,217 @@
+//! What `wall` prints: the glass at the end of a log or at a time, drawn, and
+//! as text, codes and the cursor's position. docs/WALL.md says it.
+
+use crate::chip::Sheet;
+use crate::log::{self, TIME_LIMIT};
+use crate::panel::number::{BACK, BAD};
+use crate::panel::{Panel, Times};
+use crate::picture::{self, COLUMNS, FRAME_SIZE, ROWS};
+use crate::prints::spaced;
+
+/// The latest time that may be asked for; no record has it.
+pub const LATEST: u64 = TIME_LIMIT;
+
+#[derive(Clone, Copy, Debug, PartialEq)]
+pub enum Form {
+    /// Two rows of dots to a line: drawn by others, and left out here.
+    HalfBlocks,
+    Ascii,
+    Bitmap,
+}
+
+/// What `wall` is asked for.
+#[derive(Clone, Debug, PartialEq)]
+pub struct Asked {
+    pub form: Form,
+    pub dark: bool,
+    /// None for the end of the log.
+    pub at: Option<u64>,
+    /// None for the program's own.
+    pub font: Option<Vec<u8>>,
+}
+
+/// The panel that is shown, and the record that it is the panel before.
+pub struct Shown {
+    pub panel: Panel,
+    /// None where the panel is that at the end of the log or at the cut.
+    pub before: Option<usize>,
+}
+
+/// The glass before the first record that moved the clock past the time.
+pub fn shown(log: &[u8], at: Option<u64>) -> Shown {
+    let mut panel = Panel::fresh(Times::USUAL);
+    for (place, record) in log::records(log).0.into_iter().enumerate() {
+        let earlier = panel.clone();
+        let answer = panel.answer(record).number;
+        let has_a_say = !matches!(answer, BACK | BAD);
+        let time = log::message(record).map(|message| message.time());
+        if has_a_say && at.is_some() && time > at {
+            return Shown { panel: earlier, before: Some(place) };
+        }
+    }
+    Shown { panel, before: None }
+}
+
+/// The print but for the drawing in half blocks.
+pub fn print(asked: &Asked, font: &[u8], log: &[u8]) -> Vec<u8> {
+    let panel = shown(log, asked.at).panel;
+    let mut frame = [0; FRAME_SIZE];
+    picture::paint(&panel, font, asked.dark, &mut frame);
+    match asked.form {
+        Form::Bitmap => [b"P4\n80 8\n", &frame[..]].concat(),
+        Form::Ascii => (drawing(&frame) + &lines(&panel.sheet)).into_bytes(),
+        Form::HalfBlocks => lines(&panel.sheet).into_bytes(),
+    }
+}
+
+fn drawing(frame: &[u8]) -> String {
+    let edge = format!("+{}+\n", "-".repeat(COLUMNS));
+    let mut print = edge.clone();
+    for row in 0..ROWS {
+        let dot = |column| if picture::dot(frame, row, column) { '#' } else { '.' };
+        let dots: String = (0..COLUMNS).map(dot).collect();
+        print += &format!("|{dots}|\n");
+    }
+    print + &edge
+}
+
+fn lines(sheet: &Sheet) -> String {
+    let codes: [u8; 16] = std::array::from_fn(|position| picture::code_at(sheet, position));
+    let text: String = codes.map(character).iter().collect();
+    let cursor = if sheet.d && (sheet.c || sheet.b) {
+        picture::cursor_position(sheet).to_string()
+    } else {
+        "off".to_string()
+    };
+    format!("text |{text}|\ncodes {}\ncursor {cursor}\n", spaced(&codes))
+}
+
+fn character(code: u8) -> char {
+    match code {
+        0x20..=0x7E => char::from(code),
+        _ => '.',
+    }
+}
+
+#[cfg(test)]
+mod tests {
+    use super::*;
+    use crate::chip::{Counter, DisplayAddress, PatternAddress};
+
+    fn instruction(time: u64, code: u8) -> Vec<u8> {
+        log::write_transfer(time, 0, code)
+    }
+
+    fn data(time: u64, byte: u8) -> Vec<u8> {
+        log::write_transfer(time, 1, byte)
+    }
+
+    /// The text line of a log at a time.
+    fn text(log: &[u8], at: Option<u64>) -> String {
+        let print = lines(&shown(log, at).panel.sheet);
+        print.lines().next().expect("three lines").to_string()
+    }
+
+    /// The codes 80h to 8Fh by address, shifted so that position 0 shows 83h.
+    fn shifted() -> Sheet {
+        let mut sheet = Sheet::fresh();
+        sheet.display = std::array::from_fn(|at| 0x80 + at as u8);
+        sheet.shift = 3;
+        sheet
+    }
+
+    #[test]
+    fn positions_are_counted_from_the_shift() {
+        let mut sheet = shifted();
+        sheet.display[2] = b'c';
+        sheet.display[3] = b'd';
+        let print = lines(&sheet);
+        assert_eq!(
+            print,
+            "text |d..............c|\ncodes 64 84 85 86 87 88 89 8A 8B 8C 8D 8E 8F 80 81 63\ncursor off\n"
+        );
+    }
+
+    #[test]
+    fn text_shows_20h_to_7eh() {
+        let shown: String = [0x00, 0x0F, 0x1F, 0x20, 0x21, 0x7E, 0x7F, 0x80, 0xFF].map(character).iter().collect();
+        assert_eq!(shown, "... !~...");
+    }
+
+    #[test]
+    fn the_cursor_is_shown_where_d_and_c_or_b_are_on() {
+        for (d, c, b, is_shown) in [
+            (true, true, false, true), (true, false, true, true), (true, true, true, true),
+            (true, false, false, false), (false, true, true, false), (false, true, false, false),
+        ] {
+            let mut sheet = shifted();
+            (sheet.d, sheet.c, sheet.b) = (d, c, b);
+            sheet.counter = Counter::Display(DisplayAddress(1));
+            let cursor = if is_shown { "cursor 14\n" } else { "cursor off\n" };
+            assert!(lines(&sheet).ends_with(cursor), "{d} {c} {b}");
+        }
+        let mut sheet = shifted();
+        (sheet.d, sheet.c) = (true, true);
+        sheet.counter = Counter::Pattern(PatternAddress(21));
+        assert!(lines(&sheet).ends_with("cursor 2\n"), "(21 mod 16 - 3) mod 16");
+    }
+
+    #[test]
+    fn the_glass_at_a_time() {
+        let log = [instruction(100, 0x06), data(200, b'a'), data(300, b'b'), data(300, b'c'), data(340, b'd')].concat();
+        for (at, letters) in [
+            (Some(0), ""), (Some(199), ""), (Some(200), "a"), (Some(299), "a"), (Some(300), "ab"), (Some(339), "ab"),
+            (Some(340), "abd"), (Some(1 << 48), "abd"), (None, "abd"),
+        ] {
+            assert_eq!(text(&log, at), format!("text |{letters:16}|"), "{at:?}");
+        }
+    }
+
+    #[test]
+    fn bad_and_backward_records_have_no_say() {
+        let late = log::write_transfer(1 << 48, 1, b'x');
+        let stray = log::write_transfer(900, 4, b'x');
+        let log = [data(100, b'a'), late, stray, data(50, b'x'), data(200, b'b'), data(400, b'c'), data(150, b'x')].concat();
+        assert_eq!(text(&log, Some(300)), "text |ab              |");
+        assert_eq!(text(&log, Some(150)), "text |a               |", "at the time of one that is back");
+        assert_eq!(text(&log, Some(400)), "text |abc             |");
+        assert_eq!(shown(&log, Some(300)).before, Some(5));
+        assert_eq!(shown(&log, Some(400)).before, None);
+    }
+
+    #[test]
+    fn a_later_record_ends_it_whatever_it_did() {
+        let status = log::write_transfer(200, 2, 0);
+        for later in [status, instruction(200, 0x00), log::write_reset(200), data(110, b'x')] {
+            let log = [data(100, b'a'), later, data(20_000, b'b')].concat();
+            assert_eq!(shown(&log, Some(105)).before, Some(1));
+            assert_eq!(text(&log, Some(105)), "text |a               |");
+        }
+    }
+
+    #[test]
+    fn a_cut_ends_the_log() {
+        let cut = [data(100, b'a'), vec![1, 0], data(200, b'b')].concat();
+        for at in [None, Some(150), Some(200), Some(1 << 48)] {
+            assert_eq!(text(&cut, at), "text |a               |");
+        }
+        assert_eq!(text(&[], None), "text |                |");
+        assert_eq!(text(&[12], Some(0)), "text |                |");
+    }
+
+    #[test]
+    fn a_bitmap_is_the_frame_behind_two_lines() {
+        let font = vec![0; 1_920];
+        let mut asked = Asked { form: Form::Bitmap, dark: false, at: None, font: None };
+        let mut expected = b"P4\n80 8\n".to_vec();
+        expected.extend([0; 80]);
+        let log = instruction(0, 0x0D);
+        assert_eq!(print(&asked, &font, &log), expected);
+        // The blink fills position 0: five dots in each of eight rows.
+        asked.dark = true;
+        for row in 0..8 {
+            expected[8 + 10 * row] = 0xF8;
+        }
+        assert_eq!(print(&asked, &font, &log), expected);
+    }
+}
