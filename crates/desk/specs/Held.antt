@@ -2,10 +2,15 @@
 use Prim.Native.Nat.{ℕ, min}
 use mathlib.Core.Path.{_≡_}
 use mathlib.Core.List.{List}
-use lib.ListN.{length}
+use lib.ListN.{length, take}
 use Rattle.io.specs.Counts.{Counts}
+use Rattle.desk.specs.declared.bytes.Bytes.{Bytes}
 
 -- as many as are said, and never more than there are
 pub record Held (bytes : List ℕ) (len r : ℕ) : Type 0 where
   pub is : r ≡ min len (length bytes)
   pub counts : Counts r bytes
+
+-- the bytes of a file that was read: as many as are held
+abbrev pub heldOf : Bytes → List ℕ
+heldOf b = take (min (b .len) (length (b .bytes))) (b .bytes)

@@ -1,5 +1,6 @@
 -- What a comparison answers (document 01, "The picture", "Answer numbers").
 use Prim.Native.Nat.{ℕ}
+use mathlib.Core.Path.{_≡_}
 use mathlib.Core.Bool.{Bool, not}
 use mathlib.Core.List.{List}
 use mathlib.Core.Option.{Option, none, some}
@@ -9,6 +10,7 @@ use Rattle.laws.specs.Pick.{pick}
 use Rattle.dots.specs.Landing.{dot}
 use Rattle.dots.specs.First.{firstDot}
 use Rattle.picture.specs.Frame.{glass}
+use Rattle.picture.specs.Refusal.{numbered}
 use Rattle.picture.specs.declared.compare.Compared.{Compared}
 use Rattle.picture.specs.declared.compare.Compared.the-variants.{At, Same, Size}
 
@@ -22,12 +24,29 @@ paper (At r x) = record { number = none; place = some (r, x) }
 paper Same = record { number = none; place = none }
 paper Size = record { number = some 9; place = none }
 
+abbrev pub refusalOf : Compared → ℕ
+refusalOf answer = numbered (paper answer .number)
+
 -- the two frames differ at the dot (r, x)
 abbrev pub differ : List ℕ → List ℕ → ℕ → ℕ → Bool
 differ a b r x = not (eqb (dot glass a r x) (dot glass b r x))
+
+-- the number by the paper's tests: 9 for a size, and none otherwise
+abbrev pub numberFor : List ℕ → List ℕ → Option ℕ
+numberFor a b = pick (not (eqb (length a) (glass .size))) (some 9) (pick (not (eqb (length b) (glass .size))) (some 9) none)
+
+-- a refused comparison reports no place, any other the first dot, by rows, at which the frames differ, where there is one
+abbrev pub placeFor : Option ℕ → List ℕ → List ℕ → Option (ℕ × ℕ)
+placeFor (some n) a b = none
+placeFor none a b = firstDot (differ a b) (λ r x. some (r, x)) none (glass .cols) 0 (glass .rows)
 
 -- the first dot, by rows, at which two frames differ, or that none does
 abbrev pub comparedOf : List ℕ → List ℕ → Compared
 comparedOf a b =
     pick (not (eqb (length a) (glass .size))) Size
     (pick (not (eqb (length b) (glass .size))) Size (firstDot (differ a b) At Same (glass .cols) 0 (glass .rows)))
+
+-- all that a comparison says: the answer, and its number and place on paper
+pub record Compares (a b : List ℕ) (answer : Compared) : Type 0 where
+  pub told : answer ≡ comparedOf a b
+  pub paper : paper answer ≡ record { number = numberFor a b; place = placeFor (numberFor a b) a b }

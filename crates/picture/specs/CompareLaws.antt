@@ -1,9 +1,9 @@
 -- What the answers of a comparison mean.
-use Prim.Native.Nat.{ℕ, _<_}
-use mathlib.Core.Path.{_≡_, refl, subst}
+use Prim.Native.Nat.{ℕ, zero, suc, _+_, _<_}
+use mathlib.Core.Path.{_≡_, refl, subst, ap, ap₂, _∙_}
 use mathlib.Core.Bool.{Bool, true, false, not}
 use mathlib.Core.List.{List}
-use mathlib.Core.Option.{none, some}
+use mathlib.Core.Option.{Option, none, some}
 use native.Mathlib.Omega.{arith}
 use borrow.Author.Tests.{eq-eqb, not-true, not-false, eqb-true, eqb-false}
 use lib.Dec.{eqb}
@@ -11,10 +11,10 @@ use lib.ListN.{length}
 use Rattle.laws.specs.Pick.{pick}
 use Rattle.dots.specs.Landing.{dot}
 use Rattle.dots.specs.LandingLaws.{Bytes, same-bytes}
-use Rattle.dots.specs.First.{firstDot}
+use Rattle.dots.specs.First.{first, firstDot}
 use Rattle.dots.specs.FirstLaws.{Before, first-dot-says}
 use Rattle.picture.specs.Frame.{glass}
-use Rattle.picture.specs.Compare.{paper, differ, comparedOf}
+use Rattle.picture.specs.Compare.{Compares, Paper, paper, differ, placeFor, comparedOf}
 use Rattle.picture.specs.declared.compare.Compared.{Compared}
 use Rattle.picture.specs.declared.compare.Compared.the-variants.{At, Same, Size}
 
@@ -79,17 +79,41 @@ module _ (a b : List ℕ) (la : length a ≡ glass .size) (lb : length b ≡ gla
   pub same-frames : comparedOf a b ≡ Same → Bytes a → Bytes b → a ≡ b
   same-frames e ba bb = same-bytes glass (λ _ _ _ _. refl) a b la lb ba bb (same-equal e)
 
--- the number is 9 exactly where a frame has another size, and there is none otherwise
-pub compared-number : (a b : List ℕ) → paper (comparedOf a b) .number
-    ≡ pick (not (eqb (length a) (glass .size))) (some 9) (pick (not (eqb (length b) (glass .size))) (some 9) none)
-compared-number a b =
-    by (not (eqb (length a) (glass .size))) (not (eqb (length b) (glass .size))) (firstDot (differ a b) At Same (glass .cols) 0 (glass .rows))
-    (first-dot-says (differ a b) At Same (glass .cols) (λ c. paper c .number ≡ none) 0 (glass .rows) (λ _ _ _ _ _ _ _. refl) (λ _. refl))
+-- what is said of the first place is said of the place alone
+module _ {A B : Type 0} (f : A → B) where
+  picked : (b : Bool) (x y : A) (z : B) → f y ≡ z → f (pick b x y) ≡ pick b (f x) z
+  picked true x y z e = refl
+  picked false x y z e = e
+
+  first-said : (t : ℕ → Bool) (found : ℕ → A) (rest : A) (x k : ℕ) → f (first t found rest x k) ≡ first t (λ x. f (found x)) (f rest) x k
+  unfolding first
+  first-said t found rest x zero = refl
+  first-said t found rest x (suc k) = picked (t x) (found x) _ _ (first-said t found rest (x + 1) k)
+
+  first-dot-said : (t : ℕ → ℕ → Bool) (found : ℕ → ℕ → A) (rest : A) (cols r k : ℕ)
+      → f (firstDot t found rest cols r k) ≡ firstDot t (λ r x. f (found r x)) (f rest) cols r k
+  unfolding firstDot
+  first-dot-said t found rest cols r zero = refl
+  first-dot-said t found rest cols r (suc k) =
+      first-said (t r) (found r) (firstDot t found rest cols (r + 1) k) 0 cols
+      ∙ ap (λ (b : B). first (t r) (λ x. f (found r x)) b 0 cols) (first-dot-said t found rest cols (r + 1) k)
+
+-- the answer on paper: 9 exactly where a frame has another size, and then no place; otherwise the first, or none
+pub compares : (a b : List ℕ) (answer : Compared) → answer ≡ comparedOf a b → Compares a b answer
+compares a b answer e = record {
+  told = e;
+  paper = ap paper e ∙ by (not (eqb (length a) (glass .size))) (not (eqb (length b) (glass .size)))
+      (firstDot (differ a b) At Same (glass .cols) 0 (glass .rows))
+      (first-dot-says (differ a b) At Same (glass .cols) (λ c. paper c .number ≡ none) 0 (glass .rows) (λ _ _ _ _ _ _ _. refl) (λ _. refl))
+      (first-dot-said (λ c. paper c .place) (differ a b) At Same (glass .cols) 0 (glass .rows));
+}
   where
-    by : (p q : Bool) (c : Compared) → paper c .number ≡ none → paper (pick p Size (pick q Size c)) .number ≡ pick p (some 9) (pick q (some 9) none)
-    by true q c h = refl
-    by false true c h = refl
-    by false false c h = h
+    by : (p q : Bool) (c : Compared) → paper c .number ≡ none → paper c .place ≡ placeFor none a b
+        → paper (pick p Size (pick q Size c))
+        ≡ record { number = pick p (some 9) (pick q (some 9) none); place = placeFor (pick p (some 9) (pick q (some 9) none)) a b }
+    by true q c h k = refl
+    by false true c h k = refl
+    by false false c h k = ap₂ (λ (n : Option ℕ) (place : Option (ℕ × ℕ)). record { number = n; place = place }) h k
 
 -- a refused comparison names no place
 pub refused-nowhere : (c : Compared) (n : ℕ) → paper c .number ≡ some n → paper c .place ≡ none

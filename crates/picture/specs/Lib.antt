@@ -3,6 +3,7 @@ pub mod Cursor
 pub mod CursorLaws
 pub mod Frame
 pub mod Picture
+pub mod Refusal
 pub mod PictureLaws
 pub mod Shown
 pub mod Paint

@@ -13,6 +13,7 @@ use Rattle.mirror.specs.declared.panel.Panel.{Panel}
 use Rattle.picture.specs.Pattern.{fontSize}
 use Rattle.picture.specs.Frame.{glass}
 use Rattle.picture.specs.Picture.{lit}
+use Rattle.picture.specs.Refusal.{numbered}
 use Rattle.picture.specs.declared.paint.Painted.{Painted}
 use Rattle.picture.specs.declared.paint.Painted.the-variants.{Lit, Size, Unsound}
 
@@ -25,6 +26,20 @@ abbrev pub paper : Painted → Paper
 paper (Lit n) = record { number = none; dots = n }
 paper Size = record { number = some 9; dots = 0 }
 paper Unsound = record { number = some 10; dots = 0 }
+
+abbrev pub refusalOf : Painted → ℕ
+refusalOf answer = numbered (paper answer .number)
+
+-- the number by the paper's tests: 10 for a panel that is not sound, then 9 for a size, and none otherwise
+abbrev pub numberFor : Panel → List ℕ → List ℕ → Option ℕ
+numberFor panel font frame =
+    pick (not (soundPanel panel)) (some 10)
+    (pick (not (eqb (length font) fontSize)) (some 9) (pick (not (eqb (length frame) (glass .size))) (some 9) none))
+
+-- a refused painting reports 0 lit dots, any other how many are lit
+abbrev pub dotsFor : Option ℕ → Panel → List ℕ → Bool → ℕ
+dotsFor (some n) panel font dark = 0
+dotsFor none panel font dark = countOf glass (lit (panel .sheet) font dark)
 
 -- 10 before 9; otherwise how many dots are lit
 abbrev pub paintedOf : Panel → List ℕ → Bool → List ℕ → Painted
@@ -40,7 +55,8 @@ frameAfter panel font dark frame =
     (pick (not (eqb (length font) fontSize)) frame
     (pick (not (eqb (length frame) (glass .size))) frame (frameOf glass (lit (panel .sheet) font dark))))
 
--- all that a painting says and does
+-- all that a painting says and does: the answer, its number and lit dots on paper, and the frame afterwards
 pub record Paints (panel : Panel) (font : List ℕ) (dark : Bool) (before : List ℕ) (answer : Painted) (after : List ℕ) : Type 0 where
   pub told : answer ≡ paintedOf panel font dark before
+  pub paper : paper answer ≡ record { number = numberFor panel font before; dots = dotsFor (numberFor panel font before) panel font dark }
   pub left : after ≡ frameAfter panel font dark before

@@ -3,26 +3,26 @@ use Prim.Native.Nat.{ℕ, _+_, _*_, _<_}
 use mathlib.Core.Path.{_≡_, refl, sym, ap, _∙_}
 use mathlib.Core.Bool.{Bool, true, false, not}
 use mathlib.Core.List.{List}
-use mathlib.Core.Option.{none, some}
+use mathlib.Core.Option.{Option, none, some}
 use native.Mathlib.Omega.{arith}
-use borrow.Author.Tests.{eq-eqb, ne-eqb}
+use borrow.Author.Tests.{eq-eqb, ne-eqb, lt-leb}
 use lib.Dec.{eqb}
 use lib.ListN.{length, replicate}
 use Rattle.laws.specs.Pick.{pick}
 use Rattle.dots.specs.Bit.{one}
 use Rattle.dots.specs.Landing.{dot, frameOf, countOf}
-use Rattle.dots.specs.LandingLaws.{dot-frame}
+use Rattle.dots.specs.LandingLaws.{dot-frame, length-frame}
 use Rattle.dots.specs.Cells.{line}
 use Rattle.dots.specs.CellsLaws.{page-frame, page-count, one-line, one-line-sum}
 use Rattle.chip.specs.declared.sheet.Sheet.{Sheet}
 use Rattle.mirror.specs.Panel.{soundPanel}
 use Rattle.mirror.specs.declared.panel.Panel.{Panel}
 use Rattle.picture.specs.Pattern.{tall, wide, fontSize}
-use Rattle.picture.specs.Frame.{lines, across, glass}
+use Rattle.picture.specs.Frame.{lines, across, glass, litAt}
 use Rattle.picture.specs.Picture.{lit}
 use Rattle.picture.specs.Shown.{PutsLine, lineDot}
 use Rattle.picture.specs.ShownLaws.{shown-lit}
-use Rattle.picture.specs.Paint.{Paints, paper, paintedOf, frameAfter}
+use Rattle.picture.specs.Paint.{Paints, Paper, paper, dotsFor, paintedOf, frameAfter}
 use Rattle.picture.specs.declared.paint.Painted.{Painted}
 use Rattle.picture.specs.declared.paint.Painted.the-variants.{Lit, Size, Unsound}
 
@@ -44,39 +44,46 @@ module _ (s : Sheet) (font : List ℕ) (dark : Bool) where
       P .tally ∙ sym (one-line-sum glass tall wide across (λ l. lineDot s font dark))
       ∙ page-count glass (lit s font dark) tall wide across lines refl refl (λ l. lineDot s font dark) dots
 
--- the ways out of a painting
 module _ (panel : Panel) (font : List ℕ) (dark : Bool) (frame : List ℕ) where
+  -- the answer on paper: 10 for a panel that is not sound, then 9 for a size, and then 0 lit dots; otherwise no number, and those that are lit
+  paints : (answer : Painted) (after : List ℕ) → answer ≡ paintedOf panel font dark frame → after ≡ frameAfter panel font dark frame
+      → Paints panel font dark frame answer after
+  paints answer after told left = record {
+    told = told;
+    paper = ap paper told ∙ by (not (soundPanel panel)) (not (eqb (length font) fontSize)) (not (eqb (length frame) (glass .size)));
+    left = left;
+  }
+    where
+      number : Bool → Bool → Bool → Option ℕ
+      number p q t = pick p (some 10) (pick q (some 9) (pick t (some 9) none))
+
+      by : (p q t : Bool) → paper (pick p Unsound (pick q Size (pick t Size (Lit (dotsFor none panel font dark)))))
+          ≡ record { number = number p q t; dots = dotsFor (number p q t) panel font dark }
+      by true q t = refl
+      by false true t = refl
+      by false false true = refl
+      by false false false = refl
+
+  -- the ways out of a painting
   pub paints-unsound : not (soundPanel panel) ≡ true → Paints panel font dark frame Unsound frame
-  paints-unsound u = record { told = rw u; left = rw u }
+  paints-unsound u = paints Unsound frame (rw u) (rw u)
 
   pub paints-font : not (soundPanel panel) ≡ false → (length font ≡ fontSize → ⊥) → Paints panel font dark frame Size frame
-  paints-font u f = record { told = rw (u, ne-eqb (length font) fontSize f); left = rw (u, ne-eqb (length font) fontSize f) }
+  paints-font u f = paints Size frame (rw (u, ne-eqb (length font) fontSize f)) (rw (u, ne-eqb (length font) fontSize f))
 
   module _ (u : not (soundPanel panel) ≡ false) (f : length font ≡ fontSize) where
     pub paints-size : (length frame ≡ glass .size → ⊥) → Paints panel font dark frame Size frame
-    paints-size g = record {
-      told = rw (u, eq-eqb (length font) fontSize f, ne-eqb (length frame) (glass .size) g);
-      left = rw (u, eq-eqb (length font) fontSize f, ne-eqb (length frame) (glass .size) g);
-    }
+    paints-size g =
+        paints Size frame
+        (rw (u, eq-eqb (length font) fontSize f, ne-eqb (length frame) (glass .size) g))
+        (rw (u, eq-eqb (length font) fontSize f, ne-eqb (length frame) (glass .size) g))
 
     pub paints-line : length frame ≡ glass .size → (blank after : List ℕ) (n : ℕ) → blank ≡ replicate (glass .size) 0
         → PutsLine (panel .sheet) font dark blank after n → Paints panel font dark frame (Lit n) after
-    paints-line g blank after n e P = record {
-      told = rw (u, eq-eqb (length font) fontSize f, eq-eqb (length frame) (glass .size) g) (ap Lit (line-count (panel .sheet) font dark blank after n P));
-      left = rw (u, eq-eqb (length font) fontSize f, eq-eqb (length frame) (glass .size) g) (line-frame (panel .sheet) font dark blank after n e P);
-    }
-
-  -- the number is 10 for a panel that is not sound, then 9 for a size, and there is none otherwise
-  pub painted-number : paper (paintedOf panel font dark frame) .number
-      ≡ pick (not (soundPanel panel)) (some 10)
-      (pick (not (eqb (length font) fontSize)) (some 9) (pick (not (eqb (length frame) (glass .size))) (some 9) none))
-  painted-number = by (not (soundPanel panel)) (not (eqb (length font) fontSize)) (not (eqb (length frame) (glass .size))) _
-    where
-      by : (p q t : Bool) (n : ℕ) → paper (pick p Unsound (pick q Size (pick t Size (Lit n)))) .number ≡ pick p (some 10) (pick q (some 9) (pick t (some 9) none))
-      by true q t n = refl
-      by false true t n = refl
-      by false false true n = refl
-      by false false false n = refl
+    paints-line g blank after n e P =
+        paints (Lit n) after
+        (rw (u, eq-eqb (length font) fontSize f, eq-eqb (length frame) (glass .size) g) (ap Lit (line-count (panel .sheet) font dark blank after n P)))
+        (rw (u, eq-eqb (length font) fontSize f, eq-eqb (length frame) (glass .size) g) (line-frame (panel .sheet) font dark blank after n e P))
 
   -- whatever holds of the two refusals, with the frame as it was, and of the painting, holds
   pub painting-is : (P : Painted → List ℕ → Type 0) → P Unsound frame → P Size frame
@@ -110,3 +117,17 @@ module _ (panel : Panel) (font : List ℕ) (dark : Bool) (frame : List ℕ) wher
       × ((r x : ℕ) → r < glass .rows → x < glass .cols → dot glass f r x ≡ one (lit (panel .sheet) font dark r x)))
       (λ e. absurd (let z : _≡_ {A = ℕ} 0 1 = cc in omega arith)) (λ e. absurd (let z : _≡_ {A = ℕ} 0 1 = cc in omega arith))
       (λ _. (refl, dot-frame glass (lit (panel .sheet) font dark)))
+
+  -- and read dot by dot it is the picture
+  pub painted-lit : paper (paintedOf panel font dark frame) .number ≡ none → (r x : ℕ) → r < glass .rows → x < glass .cols
+      → litAt (frameAfter panel font dark frame) r x ≡ lit (panel .sheet) font dark r x
+  painted-lit h r x p q =
+      painting-is (λ a f. paper a .number ≡ none → litAt f r x ≡ lit (panel .sheet) font dark r x)
+      (λ e. absurd (let z : _≡_ {A = ℕ} 0 1 = cc in omega arith)) (λ e. absurd (let z : _≡_ {A = ℕ} 0 1 = cc in omega arith))
+      (λ _. rw (eq-eqb _ _ (length-frame glass (lit (panel .sheet) font dark)), lt-leb _ _ p, lt-leb _ _ q, dot-frame glass (lit (panel .sheet) font dark) r x p q)
+      (one-eqb (lit (panel .sheet) font dark r x)))
+      h
+    where
+      one-eqb : (b : Bool) → eqb (one b) 1 ≡ b
+      one-eqb true = refl
+      one-eqb false = refl

@@ -1,6 +1,6 @@
 // The comparison of two frames.
 ghost use mathlib.Core.Path.{_≡_};
-ghost use Rattle.picture.specs.Compare.{comparedOf};
+ghost use Rattle.picture.specs.Compare.{Compares, refusalOf};
 use crate::frame::COLUMNS;
 use crate::frame::FRAME_SIZE;
 use crate::frame::ROWS;
@@ -15,8 +15,21 @@ pub enum Compared {
     Size,
 }
 
+impl Compared {
+    // This paper's number of a refusal, 0 where nothing was refused.
+    pub fn refusal(self) -> u8
+        ensures { λ r. ⌜ r ≡ refusalOf self ⌝ }
+    {
+        match self {
+            Compared::At { row: _, column: _ } => 0,
+            Compared::Same => 0,
+            Compared::Size => 9,
+        }
+    }
+}
+
 pub fn compare(a: &[u8], b: &[u8]) -> Compared
-    ensures { λ r. ⌜ r ≡ comparedOf (now (a .entry)) (now (b .entry)) ⌝ }
+    ensures { λ r. ⌜ Compares (now (a .entry)) (now (b .entry)) r ⌝ }
 {
     if a.len() != FRAME_SIZE {
         return Compared::Size;

@@ -1,8 +1,16 @@
-// Where the cursor stands on the screen.
+// Where the cursor stands on the screen, and whether it is shown.
 ghost use mathlib.Core.Path.{_≡_};
-ghost use Rattle.picture.specs.Cursor.{positionOf};
+ghost use Rattle.picture.specs.Cursor.{cursorOf, positionOf};
 use chip::address::Address;
 use chip::address::DISPLAY_SIZE;
+use chip::registers::Registers;
+
+pub enum Cursor {
+    // No cursor is shown.
+    Off,
+    // It is shown at a position.
+    At(usize),
+}
 
 // The screen position of an address. This is the one place where a pattern address counts as a position.
 pub fn position(address: Address, shift: u8) -> usize
@@ -10,4 +18,15 @@ pub fn position(address: Address, shift: u8) -> usize
 {
     let shift = shift as usize % DISPLAY_SIZE;
     (address.number() as usize + (DISPLAY_SIZE - shift)) % DISPLAY_SIZE
+}
+
+// The cursor that the registers show, as a line or as a blink.
+pub fn shown(registers: Registers) -> Cursor
+    ensures { λ r. ⌜ r ≡ cursorOf registers ⌝ }
+{
+    let address = registers.address;
+    if registers.on & (registers.cursor | registers.blink) {
+        return Cursor::At(position(address, registers.shift));
+    }
+    Cursor::Off
 }

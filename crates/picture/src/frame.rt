@@ -3,13 +3,13 @@ ghost use mathlib.Core.Path.{_≡_};
 ghost use Prim.Native.Nat.{_<_};
 ghost use lib.ListN.{length, replicate};
 ghost use Rattle.dots.specs.Landing.{dot, put};
-ghost use Rattle.picture.specs.Frame.{Lands, glass};
+ghost use Rattle.picture.specs.Frame.{Lands, glass, litAt};
 
 pub const ROWS: usize = 8;
 
 pub const COLUMNS: usize = 80;
 
-pub const ROW_BYTES: usize = 10;
+const ROW_BYTES: usize = 10;
 
 pub const FRAME_SIZE: usize = 80;
 
@@ -37,6 +37,22 @@ pub(crate) fn dot_at(frame: &[u8], row: usize, column: usize) -> u8
     let p = landing(row, column);
     let i = p.byte;
     (frame[i] >> p.bit) & 1
+}
+
+// Whether a dot of a frame is lit: none is outside, nor in a frame of another size. Whoever shows a frame reads it here.
+pub fn lit_at(frame: &[u8], row: usize, column: usize) -> bool
+    ensures { λ r. ⌜ r ≡ litAt (now (frame .entry)) row column ⌝ }
+{
+    if frame.len() != FRAME_SIZE {
+        return false;
+    }
+    if ROWS <= row {
+        return false;
+    }
+    if COLUMNS <= column {
+        return false;
+    }
+    dot_at(frame, row, column) == 1
 }
 
 // Lights one dot where v is 1.

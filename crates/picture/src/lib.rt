@@ -1,6 +1,8 @@
-// The picture of a panel: patterns as arrays, where a dot lands, the painter and the comparison.
+// The picture of a panel: patterns as arrays, where a dot lands, the codes and the cursor on the screen, the painter and
+// the comparison.
 pub mod compare;
 pub mod cursor;
 pub mod frame;
 pub mod paint;
 pub mod pattern;
+pub mod screen;

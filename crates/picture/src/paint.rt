@@ -6,7 +6,7 @@ ghost use Rattle.picture.specs.Pattern.{tall, wide, fontSize, patternsOf
 ghost use Rattle.picture.specs.Frame.{across, glass};
 ghost use Rattle.dots.specs.Table.{sum};
 ghost use Rattle.picture.specs.Shown.{PutsCell, PutsLine, PutsRow, rowDot, shapeFrom, shownOf};
-ghost use Rattle.picture.specs.Paint.{Paints};
+ghost use Rattle.picture.specs.Paint.{Paints, refusalOf};
 use crate::cursor::position;
 use crate::frame::FRAME_SIZE;
 use crate::frame::clear;
@@ -18,8 +18,8 @@ use crate::pattern::TALL;
 use crate::pattern::WIDE;
 use crate::pattern::glyph;
 use crate::pattern::patterns;
+use crate::screen::code_at;
 use chip::address::DISPLAY_SIZE;
-use chip::address::DisplayAddress;
 use chip::sheet::Sheet;
 use mirror::panel::Panel;
 
@@ -32,6 +32,19 @@ pub enum Painted {
     Size,
     // A panel that is not sound.
     Unsound,
+}
+
+impl Painted {
+    // This paper's number of a refusal, 0 where nothing was refused.
+    pub fn refusal(self) -> u8
+        ensures { λ r. ⌜ r ≡ refusalOf self ⌝ }
+    {
+        match self {
+            Painted::Lit(_) => 0,
+            Painted::Size => 9,
+            Painted::Unsound => 10,
+        }
+    }
 }
 
 // The pattern of a code; `own` are the four of the panel.
@@ -62,9 +75,7 @@ fn shown(
     if !r.on {
         return [0; TALL];
     }
-    let display = sheet.display;
-    let address = DisplayAddress(((at + r.shift as usize) % DISPLAY_SIZE) as u8);
-    let mut rows = shape(own, font, address.read(&display));
+    let mut rows = shape(own, font, code_at(sheet, at));
     let a = r.address;
     if at != position(a, r.shift) {
         return rows;

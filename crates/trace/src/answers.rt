@@ -1,52 +1,18 @@
-// A line for each record of standard input, as its answer comes.
-ghost use Prim.Native.Nat.{_<_};
-use desk::bytes::held;
+// A line for each record of standard input, as its answer comes out of the stream.
+use crate::lines::LINES;
+use crate::lines::put_line;
+use crate::lines::write_lines;
 use desk::input::Input;
-use desk::print::say;
-use desk::print::show;
 use mirror::stream::Reply;
+use mirror::stream::Run;
 use mirror::stream::Stream;
 
-// What the whole of standard input leaves, and whether the reading failed.
+// What the whole of standard input leaves: the run; the number of the answer that ended it, 0 where none did; and
+// whether the reading failed.
 pub struct Done {
-    pub stream: Stream,
+    pub run: Run,
+    pub ended: u8,
     pub failed: bool,
-}
-
-// A line is five bytes: a digit, a space, two digits and the line's end.
-const LINE: usize = 5;
-
-// 800 lines, written out together.
-const LINES: usize = 4000;
-
-// Where the next line goes: at the front, once what is there was written out, where there is no room.
-fn room(lines: &[u8; LINES], at: usize) -> usize
-    ensures { λ r. ⌜ r < 3996 ⌝ }
-{
-    if LINES - LINE < at {
-        show(lines);
-        return 0;
-    }
-    at
-}
-
-// Puts one line at `at`, or at the front, and answers where it ends.
-fn put_line(lines: &mut [u8; LINES], at: usize, number: u8, byte: u8) -> usize {
-    let n = room(lines, at);
-    let digits = text::hex(byte);
-    lines[n] = text::digit(number);
-    lines[n + 1] = b' ';
-    lines[n + 2] = digits[0];
-    lines[n + 3] = digits[1];
-    lines[n + 4] = b'\n';
-    n + LINE
-}
-
-// Writes out the lines up to `at`.
-fn write_lines(lines: &[u8; LINES], at: usize) {
-    let all: &[u8] = lines;
-    let n = held(all, at);
-    show(&all[..n]);
 }
 
 // Every record that a block makes whole.
@@ -72,28 +38,46 @@ fn answer_block(start: Stream, block: &[u8]) -> Stream {
     stream
 }
 
-// A part of the log. A refused stream is only fed: its records are counted, and get no line.
-fn answer_part(stream: Stream, part: &[u8]) -> Stream {
-    if stream.refused {
+// The number with which a stream refuses before it has read anything, 0 where it does not.
+fn refusal_of(stream: Stream) -> u8 {
+    let next = stream.next(b"");
+    let reply = next.reply;
+    reply.refusal()
+}
+
+// A part of the log. A stream that refuses is only fed: its records are counted, and get no line.
+fn answer_part(stream: Stream, refusal: u8, part: &[u8]) -> Stream {
+    if refusal != 0 {
         return stream.feed(part);
     }
     answer_block(stream, part)
 }
 
-// The whole of standard input.
-pub fn answer_all(start: Stream, block: &mut [u8]) -> Done {
-    if start.refused {
-        say(b"refused 10");
+fn ended(stream: Stream, refusal: u8, failed: bool) -> Done {
+    let run = stream.end();
+    if refusal != 0 {
+        return Done {
+            run,
+            ended: refusal,
+            failed,
+        };
     }
+    Done {
+        run,
+        ended: run.refusal(),
+        failed,
+    }
+}
+
+// The whole of standard input.
+pub(crate) fn answer_all(start: Stream, block: &mut [u8]) -> Done {
+    let refusal = refusal_of(start);
     let mut stream = start;
     let mut input = Input::start();
     while input.left > 0 {
         input = input.read(block);
         let n = input.len;
-        stream = answer_part(stream, &block[..n]);
+        stream = answer_part(stream, refusal, &block[..n]);
     }
-    Done {
-        stream,
-        failed: input.failed,
-    }
+    ended(stream, refusal, input.failed)
 }

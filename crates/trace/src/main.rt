@@ -1,10 +1,13 @@
 // Prints everything that a test or a doubtful colleague wants to see of a log: docs/TRACE.md has the print.
 mod answers;
+mod lines;
 mod numbers;
 mod panel_file;
+mod records;
 mod show;
 
 ghost use Prim.Native.Nat.{_<_};
+use answers::Done;
 use answers::answer_all;
 use desk::arguments::GROUPS;
 use desk::arguments::Given;
@@ -21,7 +24,9 @@ use panel_file::PANEL_SIZE;
 use panel_file::fits;
 use panel_file::panel_of;
 use picture::pattern::FONT_SIZE;
+use records::record_all;
 use show::show_difference;
+use show::show_end;
 use show::show_painting;
 use show::show_run;
 use std::num::wrapping_add_usize;
@@ -39,6 +44,8 @@ const PANEL: usize = 2;
 const FRAME: usize = 3;
 
 const FRAMES: usize = 4;
+
+const RECORDS: usize = 5;
 
 // A panel to start from, or none where it could not be had; then a line was written.
 struct Started {
@@ -157,17 +164,25 @@ fn second_place(place: usize) -> usize {
     wrapping_add_usize(place, 1)
 }
 
-// The lines of the records, then those of the run.
-fn print(panel: Panel, lent: Lent) {
+// The lines of the records, each by a call of its own or out of the stream.
+fn read_all(panel: Panel, alone: bool) -> Done {
     let mut block = [0; BLOCK];
-    let done = answer_all(Stream::start(panel), &mut block);
+    if alone {
+        return record_all(panel, &mut block);
+    }
+    answer_all(Stream::start(panel), &mut block)
+}
+
+// The lines of the records, then those of the run.
+fn print(panel: Panel, alone: bool, lent: Lent) {
+    let done = read_all(panel, alone);
     if done.failed {
         return;
     }
-    let stream = done.stream;
-    let run = stream.end();
+    let run = done.run;
     let after = run.panel;
     let font = lent.font;
+    show_end(done.ended);
     show_run(run);
     let light = show_painting(b"frame 0", after, font, false, lent.size);
     let dark = show_painting(b"frame 1", after, font, true, lent.size);
@@ -184,14 +199,15 @@ fn print(panel: Panel, lent: Lent) {
 fn arguments() -> Given {
     asked(
         b"trace",
-        b"font FILE, times R L S, panel FILE, frame N, frames A B",
+        b"font FILE, times R L S, panel FILE, frame N, frames A B, records",
         b"trace < LOG prints a line for each record, its answer and byte; then the whole panel, its picture\n\
         with the blink light and dark, and the first dot at which these two differ.\n\
         font FILE    1920 bytes: codes 10h to FFh, eight rows each; without it, a trial font\n\
         times R L S  reset, long and short time in microseconds; without it, 10000 1640 40\n\
         panel FILE   84 bytes: the panel to start from; without it, a fresh one\n\
         frame N      the size of the frames that are painted, 0 to 200; without it, 80\n\
-        frames A B   two files of at most 200 bytes, to compare in place of the two pictures\n",
+        frames A B   two files of at most 200 bytes, to compare in place of the two pictures\n\
+        records      every record by a call of its own on the panel; without it, out of the stream\n",
     )
 }
 
@@ -224,6 +240,7 @@ fn main() {
     let panel = started.panel;
     print(
         panel,
+        places[RECORDS] != 0,
         Lent {
             font,
             size: size.value as usize,

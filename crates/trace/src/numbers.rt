@@ -15,7 +15,7 @@ pub struct Timed {
 }
 
 // The three times.
-pub fn times_at(place: usize) -> Timed {
+pub(crate) fn times_at(place: usize) -> Timed {
     let usual = Times {
         reset: RESET,
         long: LONG,
@@ -48,7 +48,7 @@ pub fn times_at(place: usize) -> Timed {
 }
 
 // The size of the frames that the painter is lent.
-pub fn size_at(place: usize) -> Number {
+pub(crate) fn size_at(place: usize) -> Number {
     if place == 0 {
         return Number {
             ok: true,

@@ -1,5 +1,8 @@
 // A panel file: 84 bytes, as docs/TRACE.md lays them out.
 ghost use Prim.Native.Nat.{_<_};
+ghost use mathlib.Core.Path.{_≡_};
+ghost use Rattle.log.specs.Frame.{Byte, Num16, Num64};
+ghost use Rattle.trace.specs.PanelFile.{addressIn, bitsFit, displayIn, fitsIn, halfFits, halfIn, panelIn, patternIn, registersIn};
 use chip::address::Address;
 use chip::address::DISPLAY_SIZE;
 use chip::address::DisplayAddress;
@@ -14,36 +17,46 @@ use mirror::panel::Times;
 
 pub const PANEL_SIZE: usize = 84;
 
-fn wide(x: u8) -> u16
-    ensures { λ r. ⌜ r < 256 ⌝ }
+fn wide(x: u8) -> u64
+    ensures { λ r. ⌜ Byte x r ⌝ }
 {
-    x as u16
+    x as u64
 }
 
-fn le16(bytes: [u8; ROOM], at: usize) -> u16
+// The little-endian number of two bytes at a place.
+fn num16(bytes: [u8; ROOM], at: usize) -> u64
     requires { ⌜ at < 83 ⌝ }
+    ensures { λ r. ⌜ Num16 bytes at r ⌝ }
 {
-    wide(bytes[at]) + 256 * wide(bytes[at + 1])
+    let low = wide(bytes[at]);
+    let high = wide(bytes[at + 1]);
+    low + 256 * high
 }
 
-fn le64(bytes: [u8; ROOM], at: usize) -> u64
+// The little-endian number of eight bytes at a place.
+fn num64(bytes: [u8; ROOM], at: usize) -> u64
     requires { ⌜ at < 77 ⌝ }
+    ensures { λ r. ⌜ Num64 bytes at r ⌝ }
 {
-    let a = le16(bytes, at) as u64;
-    let b = le16(bytes, at + 2) as u64;
-    let c = le16(bytes, at + 4) as u64;
-    let d = le16(bytes, at + 6) as u64;
+    let a = num16(bytes, at);
+    let b = num16(bytes, at + 2);
+    let c = num16(bytes, at + 4);
+    let d = num16(bytes, at + 6);
     a + 65536 * b + 4294967296 * c + 281474976710656 * d
 }
 
 // Whether the bytes outside the half are ones that the types can hold: bools 0 or 1, the width 8 or 4.
-fn bits_fit(b: [u8; ROOM]) -> bool {
+fn bits_fit(b: [u8; ROOM]) -> bool
+    ensures { λ r. ⌜ r ≡ bitsFit b ⌝ }
+{
     let width = (b[56] == 8) | (b[56] == 4);
     width & (b[48] < 2) & (b[51] < 2) & (b[52] < 2) & (b[53] < 2) & (b[54] < 2) & (b[55] < 2)
 }
 
 // Whether a half's bytes are ones that the types can hold: no field where none waits, no nibble where it is ignored.
-fn half_fits(kind: u8, rs: u8, rw: u8, nibble: u8) -> bool {
+fn half_fits(kind: u8, rs: u8, rw: u8, nibble: u8) -> bool
+    ensures { λ r. ⌜ r ≡ halfFits kind rs rw nibble ⌝ }
+{
     match kind {
         0 => (rs == 0) & (rw == 0) & (nibble == 0),
         1 => (rs < 2) & (rw < 2) & (nibble == 0),
@@ -52,11 +65,15 @@ fn half_fits(kind: u8, rs: u8, rw: u8, nibble: u8) -> bool {
     }
 }
 
-pub fn fits(bytes: [u8; ROOM]) -> bool {
+pub(crate) fn fits(bytes: [u8; ROOM]) -> bool
+    ensures { λ r. ⌜ r ≡ fitsIn bytes ⌝ }
+{
     bits_fit(bytes) & half_fits(bytes[80], bytes[81], bytes[82], bytes[83])
 }
 
-fn half_of(kind: u8, rs: bool, rw: bool, nibble: u8) -> Half {
+fn half_of(kind: u8, rs: bool, rw: bool, nibble: u8) -> Half
+    ensures { λ r. ⌜ r ≡ halfIn kind rs rw nibble ⌝ }
+{
     match kind {
         1 => Half::Ignored { rs, rw },
         2 => Half::Waiting { rs, rw, nibble },
@@ -64,7 +81,9 @@ fn half_of(kind: u8, rs: bool, rw: bool, nibble: u8) -> Half {
     }
 }
 
-fn display_of(bytes: [u8; ROOM]) -> [u8; DISPLAY_SIZE] {
+fn display_of(bytes: [u8; ROOM]) -> [u8; DISPLAY_SIZE]
+    ensures { λ r. ⌜ r ≡ displayIn bytes ⌝ }
+{
     let mut display = [0u8; DISPLAY_SIZE];
     for i in 0..DISPLAY_SIZE {
         display[i] = bytes[i];
@@ -72,7 +91,9 @@ fn display_of(bytes: [u8; ROOM]) -> [u8; DISPLAY_SIZE] {
     display
 }
 
-fn pattern_of(bytes: [u8; ROOM]) -> [u8; PATTERN_SIZE] {
+fn pattern_of(bytes: [u8; ROOM]) -> [u8; PATTERN_SIZE]
+    ensures { λ r. ⌜ r ≡ patternIn bytes ⌝ }
+{
     let mut pattern = [0u8; PATTERN_SIZE];
     for i in 0..PATTERN_SIZE {
         pattern[i] = bytes[DISPLAY_SIZE + i];
@@ -80,7 +101,9 @@ fn pattern_of(bytes: [u8; ROOM]) -> [u8; PATTERN_SIZE] {
     pattern
 }
 
-fn address_of(memory: u8, number: u8) -> Address {
+fn address_of(memory: u8, number: u8) -> Address
+    ensures { λ r. ⌜ r ≡ addressIn memory number ⌝ }
+{
     if memory == 0 {
         Address::Display(DisplayAddress(number))
     } else {
@@ -88,7 +111,9 @@ fn address_of(memory: u8, number: u8) -> Address {
     }
 }
 
-fn registers_of(bytes: [u8; ROOM]) -> Registers {
+fn registers_of(bytes: [u8; ROOM]) -> Registers
+    ensures { λ r. ⌜ r ≡ registersIn bytes ⌝ }
+{
     Registers {
         address: address_of(bytes[48], bytes[49]),
         shift: bytes[50],
@@ -103,20 +128,22 @@ fn registers_of(bytes: [u8; ROOM]) -> Registers {
 }
 
 // The panel that bytes which fit hold, sound or not.
-pub fn panel_of(bytes: [u8; ROOM]) -> Panel {
+pub(crate) fn panel_of(bytes: [u8; ROOM]) -> Panel
+    ensures { λ r. ⌜ r ≡ panelIn bytes ⌝ }
+{
     Panel {
         sheet: Sheet {
             registers: registers_of(bytes),
             display: display_of(bytes),
             pattern: pattern_of(bytes),
         },
-        busy: le64(bytes, 64),
+        busy: num64(bytes, 64),
         half: half_of(bytes[80], bytes[81] == 1, bytes[82] == 1, bytes[83]),
         times: Times {
-            reset: le16(bytes, 58),
-            long: le16(bytes, 60),
-            short: le16(bytes, 62),
+            reset: num16(bytes, 58) as u16,
+            long: num16(bytes, 60) as u16,
+            short: num16(bytes, 62) as u16,
         },
-        last: le64(bytes, 72),
+        last: num64(bytes, 72),
     }
 }

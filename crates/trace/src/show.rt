@@ -104,19 +104,40 @@ fn show_panel(panel: Panel) {
     show_half(half);
 }
 
-pub fn show_run(run: Run) {
+fn show_counts(counts: [u64; 8]) {
+    show(b"\ncounts");
+    for i in 0..8 {
+        show_number(b" ", counts[i]);
+    }
+}
+
+// The number of the answer that ended a run, where there is one.
+pub(crate) fn show_end(number: u8) {
+    if number != 0 {
+        show_refusal(b"refused ", number);
+        show(b"\n");
+    }
+}
+
+pub(crate) fn show_run(run: Run) {
     let panel = run.panel;
+    let counts = run.counts;
     show_number(b"records ", run.records);
     show(b"\ncut");
     bit(run.cut);
+    show_counts(counts);
     show_panel(panel);
+}
+
+fn show_refusal(label: &[u8], number: u8) {
+    show_number(label, number as u64);
 }
 
 fn show_painted(painted: Painted) {
     match painted {
         Painted::Lit(n) => show_number(b" lit ", n as u64),
-        Painted::Size => show(b" refused 9"),
-        Painted::Unsound => show(b" refused 10"),
+        Painted::Size => show_refusal(b" refused ", painted.refusal()),
+        Painted::Unsound => show_refusal(b" refused ", painted.refusal()),
     }
 }
 
@@ -138,7 +159,13 @@ fn blank() -> [u8; ROOM]
 }
 
 // A painting, and the frame that it leaves.
-pub fn show_painting(label: &[u8], panel: Panel, font: Bytes, dark: bool, size: usize) -> Bytes {
+pub(crate) fn show_painting(
+    label: &[u8],
+    panel: Panel,
+    font: Bytes,
+    dark: bool,
+    size: usize,
+) -> Bytes {
     show(label);
     let dots = font.bytes;
     let m = held(&dots, font.len);
@@ -159,13 +186,13 @@ fn show_compared(compared: Compared) {
             show_number(b" ", column as u64);
         }
         Compared::Same => show(b"differ none"),
-        Compared::Size => show(b"differ refused 9"),
+        Compared::Size => show_refusal(b"differ refused ", compared.refusal()),
     }
     show(b"\n");
 }
 
 // The comparison of two frames.
-pub fn show_difference(a: Bytes, b: Bytes) {
+pub(crate) fn show_difference(a: Bytes, b: Bytes) {
     let first = a.bytes;
     let second = b.bytes;
     let i = held(&first, a.len);

@@ -1,5 +1,7 @@
-// The dots of a frame, as lines for a terminal or as a bitmap.
+// The dots of a frame, as lines for a terminal.
 ghost use Prim.Native.Nat.{_<_};
+ghost use mathlib.Core.Path.{_≡_};
+ghost use Rattle.wall.specs.Draw.{closed, markOf, opened, pairLine, pictureOf, rowLine, withBlock, withByte, withPair};
 use desk::bytes::Bytes;
 use desk::bytes::held;
 use desk::print::say;
@@ -7,8 +9,8 @@ use desk::print::show;
 use mirror::panel::Panel;
 use picture::frame::COLUMNS;
 use picture::frame::FRAME_SIZE;
-use picture::frame::ROW_BYTES;
 use picture::frame::ROWS;
+use picture::frame::lit_at;
 use picture::paint::paint;
 
 // Above the longest line: 80 half blocks of three bytes, two sides and the line's end.
@@ -21,15 +23,10 @@ struct Line {
 }
 
 impl Line {
-    fn empty() -> Line {
-        Line {
-            bytes: [0; LINE_SIZE],
-            len: 0,
-        }
-    }
-
     // With one byte more, where there is room.
-    fn with(self, byte: u8) -> Line {
+    fn with(self, byte: u8) -> Line
+        ensures { λ r. ⌜ r ≡ withByte byte self ⌝ }
+    {
         let n = self.len;
         if LINE_SIZE <= n {
             return self;
@@ -40,8 +37,44 @@ impl Line {
     }
 
     // With a character of three bytes, E2h and 96h before the last: a block of the terminal.
-    fn with_block(self, last: u8) -> Line {
+    fn with_block(self, last: u8) -> Line
+        ensures { λ r. ⌜ r ≡ withBlock last self ⌝ }
+    {
         self.with(0xE2).with(0x96).with(last)
+    }
+
+    // With two dots, one above the other.
+    fn with_pair(self, upper: bool, lower: bool) -> Line
+        ensures { λ r. ⌜ r ≡ withPair upper lower self ⌝ }
+    {
+        if upper & lower {
+            return self.with_block(0x88);
+        }
+        if upper {
+            return self.with_block(0x80);
+        }
+        if lower {
+            return self.with_block(0x84);
+        }
+        self.with(b' ')
+    }
+
+    // With its left side alone.
+    fn open() -> Line
+        ensures { λ r. ⌜ r ≡ opened ⌝ }
+    {
+        let empty = Line {
+            bytes: [0; LINE_SIZE],
+            len: 0,
+        };
+        empty.with(b'|')
+    }
+
+    // With its right side and the line's end.
+    fn close(self) -> Line
+        ensures { λ r. ⌜ r ≡ closed self ⌝ }
+    {
+        self.with(b'|').with(b'\n')
     }
 
     fn write(self) {
@@ -52,7 +85,9 @@ impl Line {
 }
 
 // The frame of a panel; no dot is lit where the painter refuses.
-pub fn painted(panel: Panel, font: Bytes, dark: bool) -> [u8; FRAME_SIZE] {
+pub(crate) fn painted(panel: Panel, font: Bytes, dark: bool) -> [u8; FRAME_SIZE]
+    ensures { λ r. ⌜ r ≡ pictureOf panel font dark ⌝ }
+{
     let dots = font.bytes;
     let n = held(&dots, font.len);
     let mut frame = [0u8; FRAME_SIZE];
@@ -60,58 +95,33 @@ pub fn painted(panel: Panel, font: Bytes, dark: bool) -> [u8; FRAME_SIZE] {
     frame
 }
 
-// A portable bitmap: its rows are those of the frame, byte by byte.
-pub fn write_bitmap(frame: [u8; FRAME_SIZE]) {
-    show(b"P4\n80 8\n");
-    show(&frame);
-}
-
-// Whether a dot is lit.
-fn lit(frame: [u8; FRAME_SIZE], row: usize, column: usize) -> bool
-    requires { ⌜ (row < 8) × (column < 80) ⌝ }
+fn mark(lit: bool) -> u8
+    ensures { λ r. ⌜ r ≡ markOf lit ⌝ }
 {
-    let i = row * ROW_BYTES + column / 8;
-    (frame[i] >> (7 - column % 8)) & 1 == 1
-}
-
-fn mark(lit: bool) -> u8 {
     if lit { b'#' } else { b'.' }
 }
 
-// With two dots, one above the other.
-fn with_pair(line: Line, upper: bool, lower: bool) -> Line {
-    if upper & lower {
-        return line.with_block(0x88);
-    }
-    if upper {
-        return line.with_block(0x80);
-    }
-    if lower {
-        return line.with_block(0x84);
-    }
-    line.with(b' ')
-}
-
 // A row of dots.
-fn draw_row(frame: [u8; FRAME_SIZE], row: usize)
-    requires { ⌜ row < 8 ⌝ }
+fn row_line(frame: [u8; FRAME_SIZE], row: usize) -> Line
+    ensures { λ r. ⌜ r ≡ rowLine frame row ⌝ }
 {
-    let mut line = Line::empty().with(b'|');
+    let mut line = Line::open();
     for column in 0..COLUMNS {
-        line = line.with(mark(lit(frame, row, column)));
+        line = line.with(mark(lit_at(&frame, row, column)));
     }
-    line.with(b'|').with(b'\n').write();
+    line.close()
 }
 
 // A row of dots and the one below it.
-fn draw_pair(frame: [u8; FRAME_SIZE], row: usize)
-    requires { ⌜ row < 7 ⌝ }
+fn pair_line(frame: [u8; FRAME_SIZE], row: usize) -> Line
+    requires { ⌜ row < 8 ⌝ }
+    ensures { λ r. ⌜ r ≡ pairLine frame row ⌝ }
 {
-    let mut line = Line::empty().with(b'|');
+    let mut line = Line::open();
     for column in 0..COLUMNS {
-        line = with_pair(line, lit(frame, row, column), lit(frame, row + 1, column));
+        line = line.with_pair(lit_at(&frame, row, column), lit_at(&frame, row + 1, column));
     }
-    line.with(b'|').with(b'\n').write();
+    line.close()
 }
 
 fn draw_edge() {
@@ -119,20 +129,20 @@ fn draw_edge() {
 }
 
 // One line for each row of dots.
-pub fn draw_rows(frame: [u8; FRAME_SIZE]) {
+pub(crate) fn draw_rows(frame: [u8; FRAME_SIZE]) {
     draw_edge();
     for row in 0..ROWS {
-        draw_row(frame, row);
+        row_line(frame, row).write();
     }
     draw_edge();
 }
 
 // One line for each two rows of dots.
-pub fn draw_pairs(frame: [u8; FRAME_SIZE]) {
+pub(crate) fn draw_pairs(frame: [u8; FRAME_SIZE]) {
     draw_edge();
-    draw_pair(frame, 0);
-    draw_pair(frame, 2);
-    draw_pair(frame, 4);
-    draw_pair(frame, 6);
+    pair_line(frame, 0).write();
+    pair_line(frame, 2).write();
+    pair_line(frame, 4).write();
+    pair_line(frame, 6).write();
     draw_edge();
 }

@@ -1927,7 +1927,7 @@ const FONT: [u8; FONT_SIZE] = [
 ];
 
 // The font as bytes of a file.
-pub fn built_in() -> Bytes {
+pub(crate) fn built_in() -> Bytes {
     let mut bytes = io::buffer();
     for i in 0..FONT_SIZE {
         bytes[i] = FONT[i];

@@ -1,13 +1,14 @@
 // What the glass showed: reads a log on standard input, and draws the panel as it then stands.
+mod bitmap;
 mod codes;
 mod draw;
 mod font;
 mod watch;
 
+use bitmap::write_bitmap;
 use codes::show_codes;
 use codes::show_cursor;
 use codes::show_text;
-use codes::shown;
 use desk::arguments::GROUPS;
 use desk::arguments::asked;
 use desk::bytes::Bytes;
@@ -22,11 +23,12 @@ use desk::times::SHORT;
 use draw::draw_pairs;
 use draw::draw_rows;
 use draw::painted;
-use draw::write_bitmap;
 use mirror::panel::Panel;
 use mirror::stream::Stream;
+use picture::cursor::shown;
 use picture::frame::FRAME_SIZE;
 use picture::pattern::FONT_SIZE;
+use picture::screen::codes;
 use watch::FOREVER;
 use watch::watch_all;
 
@@ -74,15 +76,16 @@ fn font_at(place: usize) -> Bytes {
 
 fn show_glass(frame: [u8; FRAME_SIZE], panel: Panel, ascii: bool) {
     let sheet = panel.sheet;
+    let registers = sheet.registers;
     if ascii {
         draw_rows(frame);
     } else {
         draw_pairs(frame);
     }
-    let codes = shown(sheet);
-    show_text(codes);
-    show_codes(codes);
-    show_cursor(sheet);
+    let line = codes(sheet);
+    show_text(line);
+    show_codes(line);
+    show_cursor(shown(registers));
 }
 
 // Watches the log up to the time, then shows what the glass did.

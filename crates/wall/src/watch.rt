@@ -1,4 +1,6 @@
 // The log as it comes, up to a time.
+ghost use mathlib.Core.Path.{_≡_};
+ghost use Rattle.wall.specs.Watch.{isAnswered, laterThan};
 use desk::input::Input;
 use mirror::stream::Next;
 use mirror::stream::Reply;
@@ -15,25 +17,33 @@ pub struct Seen {
 }
 
 // Whether a record was answered whose time counts, 0 to 4 or 7, and that time is later.
-fn later(next: Next, until: u64) -> bool {
+fn later(next: Next, until: u64) -> bool
+    ensures { λ r. ⌜ r ≡ laterThan until next ⌝ }
+{
     let reply = next.reply;
-    let Reply::Answered { answer, byte } = reply else {
-        return false;
-    };
     let stream = next.stream;
-    let totals = stream.totals;
-    let panel = totals.panel;
-    let number = answer.number();
-    ((number < 5) | (number == 7)) & (until < panel.last)
+    let panel = stream.panel();
+    match reply {
+        Reply::Answered { answer, byte: _ } => {
+            let number = answer.number();
+            ((number <= 4) | (number == 7)) & (until < panel.last)
+        }
+        Reply::More => false,
+        Reply::Cut => false,
+        Reply::Refused => false,
+    }
 }
 
 // Whether a record was answered.
-fn answered(next: Next) -> bool {
+fn answered(next: Next) -> bool
+    ensures { λ r. ⌜ r ≡ isAnswered (next .reply) ⌝ }
+{
     let reply = next.reply;
     match reply {
         Reply::Answered { answer, byte } => true,
         Reply::More => false,
         Reply::Cut => false,
+        Reply::Refused => false,
     }
 }
 
@@ -77,7 +87,7 @@ fn watch_part(stream: Stream, until: u64, part: &[u8]) -> Seen {
 }
 
 // The whole of standard input, or as much as there is up to the time.
-pub fn watch_all(start: Stream, until: u64, block: &mut [u8]) -> Seen {
+pub(crate) fn watch_all(start: Stream, until: u64, block: &mut [u8]) -> Seen {
     let mut seen = Seen {
         stream: start,
         more: true,

@@ -11,6 +11,7 @@ use Rattle.dots.specs.First.{first, firstDot}
 use Rattle.dots.specs.FirstLaws.{first-here, first-next, first-end, rows-next, rows-end}
 use Rattle.picture.specs.Frame.{glass}
 use Rattle.picture.specs.Compare.{differ, comparedOf}
+use Rattle.picture.specs.CompareLaws.{compares}
 use Rattle.picture.specs.declared.compare.Compared.{Compared}
 use Rattle.picture.specs.declared.compare.Compared.the-variants.{At, Same}
 use Rattle.picture.proofs.compare.compare.Statement.{statement}
@@ -45,10 +46,10 @@ abbrev μ-rows : tie.MeasureT-rows
 μ-rows a b found₀ row₀ found row = glass .rows - row
 
 returns : tie.Need-returns Inv-loop μ-loop Inv-rows μ-rows
-returns c = rw (ne-eqb _ _ (c .if1 .taken))
+returns c = compares _ _ _ (rw (ne-eqb _ _ (c .if1 .taken)))
 
 returns-2 : tie.Need-returns-2 Inv-loop μ-loop Inv-rows μ-rows
-returns-2 c = rw (eq-eqb _ _ (c .before .if1 .left), ne-eqb _ _ (c .if2 .taken))
+returns-2 c = compares _ _ _ (rw (eq-eqb _ _ (c .before .if1 .left), ne-eqb _ _ (c .if2 .taken)))
 
 rows-holds : tie.Need-rows-holds Inv-loop μ-loop Inv-rows μ-rows
 rows-holds c = (
@@ -99,13 +100,13 @@ rows-again c =
 returns-3 : tie.Need-returns-3 Inv-loop μ-loop Inv-rows μ-rows
 returns-3 c =
     let S = c .before .rows .inv .0 in
-    S .nothing ∙ sym (S .rest ∙ rows-end _ At Same (glass .cols) (c .before .rows .row) (glass .rows) (omega arith))
+    compares _ _ _ (S .nothing ∙ sym (S .rest ∙ rows-end _ At Same (glass .cols) (c .before .rows .row) (glass .rows) (omega arith)))
 
 returns-4 : tie.Need-returns-4 Inv-loop μ-loop Inv-rows μ-rows
 returns-4 c =
     let at = c .before .before .before .before in
     let differs = ap not (ne-eqb _ _ (λ e. c .if3 .taken (c .before .before .dot-at .ensures ∙ e ∙ sym (c .before .dot-at2 .ensures)))) in
-    sym (at .loop .inv .0 .rest ∙ first-here _ _ _ (at .loop .column) (glass .cols) (omega arith) differs)
+    compares _ _ _ (sym (at .loop .inv .0 .rest ∙ first-here _ _ _ (at .loop .column) (glass .cols) (omega arith) differs))
 
 pub compare-spec : {M : Type 1} → statement M
 compare-spec =

@@ -11,25 +11,16 @@ use Rattle.picture.specs.ShownLaws.{shape-from, shown-off, shown-away, s
 use Rattle.picture.proofs.paint.shown.Statement.{statement}
 use Rattle.picture.proofs.paint.shown.Tie as tie
 
-rows-are : (c : tie.After-position) → c .before .shape .result ≡ shapeAt (c .before .before .before .before .before .before .before .before .before .before .args .sheet) (now (c .before .before .before .before .before .before .before .before .before .before .args .font)) (c .before .before .before .before .before .before .before .before .before .before .args .at)
+rows-are : (c : tie.After-position) → c .before .shape .result ≡ shapeAt (c .before .before .before .before .before .before .before .args .sheet) (now (c .before .before .before .before .before .before .before .args .font)) (c .before .before .before .before .before .before .before .args .at)
 rows-are c =
-    let a = c .before .before .before .before .before .before .before .before .before .before .args in
-    shape-from (a .sheet) (now (a .font)) (a .at) (a .own) _ _ (c .before .before .before .before .before .before .before .before .before .before .pre .0) (c .before .before .read .ensures) (c .before .shape .ensures)
+    let a = c .before .before .before .before .before .before .before .args in
+    shape-from (a .sheet) (now (a .font)) (a .at) (a .own) _ _ (c .before .before .before .before .before .before .before .pre .0) (c .before .before .code-at .ensures) (c .before .shape .ensures)
 
 returns : tie.Need-returns
 returns c = let a = c .before .before .before .before .args in shown-off (a .sheet) (now (a .font)) (a .dark) (a .at) (c .if1 .taken)
 
-cast-shape : tie.Need-cast-shape
-cast-shape c = search needs
-
-add-shape : tie.Need-add-shape
-add-shape c = search needs
-
-cast-shape-2 : tie.Need-cast-shape-2
-cast-shape-2 c = search needs
-
-read-requires : tie.Need-read-requires
-read-requires c κs = search needs
+code-at-requires : tie.Need-code-at-requires
+code-at-requires c κs = search needs
 
 shape-requires : tie.Need-shape-requires
 shape-requires c κs = search needs
@@ -40,14 +31,14 @@ position-requires c κs = search needs
 returns-2 : tie.Need-returns-2
 returns-2 c =
     let at = c .before in
-    let a = at .before .before .before .before .before .before .before .before .before .before .args in
-    rows-are at ∙ shown-away (a .sheet) (now (a .font)) (a .dark) (a .at) (at .before .before .before .before .before .before .if1 .left) (λ e. c .if2 .taken (e ∙ sym (at .position .ensures)))
+    let a = at .before .before .before .before .before .before .before .args in
+    rows-are at ∙ shown-away (a .sheet) (now (a .font)) (a .dark) (a .at) (at .before .before .before .if1 .left) (λ e. c .if2 .taken (e ∙ sym (at .position .ensures)))
 
 returns-3 : tie.Need-returns-3
 returns-3 c =
     let at = c .before .before .before in
-    let a = at .before .before .before .before .before .before .before .before .before .before .args in
-    shown-blink (a .sheet) (now (a .font)) (a .dark) (a .at) (at .before .before .before .before .before .before .if1 .left) (c .before .before .if2 .left ∙ at .position .ensures) (c .if3 .taken)
+    let a = at .before .before .before .before .before .before .before .args in
+    shown-blink (a .sheet) (now (a .font)) (a .dark) (a .at) (at .before .before .before .if1 .left) (c .before .before .if2 .left ∙ at .position .ensures) (c .if3 .taken)
 
 array-write-rows : tie.Need-array-write-rows
 array-write-rows c = search needs
@@ -55,25 +46,22 @@ array-write-rows c = search needs
 returns-4 : tie.Need-returns-4
 returns-4 c =
     let at = c .before .before .before .before in
-    let a = at .before .before .before .before .before .before .before .before .before .before .args in
+    let a = at .before .before .before .before .before .before .before .args in
     ap (λ (l : List ℕ). set l cursorRow full) (rows-are at)
-    ∙ shown-under (a .sheet) (now (a .font)) (a .dark) (a .at) (at .before .before .before .before .before .before .if1 .left) (c .before .before .before .if2 .left ∙ at .position .ensures) (c .before .if3 .left) (c .if4 .taken)
+    ∙ shown-under (a .sheet) (now (a .font)) (a .dark) (a .at) (at .before .before .before .if1 .left) (c .before .before .before .if2 .left ∙ at .position .ensures) (c .before .if3 .left) (c .if4 .taken)
 
 returns-5 : tie.Need-returns-5
 returns-5 c =
     let at = c .before .before .before .before in
-    let a = at .before .before .before .before .before .before .before .before .before .before .args in
-    rows-are at ∙ shown-bare (a .sheet) (now (a .font)) (a .dark) (a .at) (at .before .before .before .before .before .before .if1 .left) (c .before .before .before .if2 .left ∙ at .position .ensures) (c .before .if3 .left) (c .if4 .left)
+    let a = at .before .before .before .before .before .before .before .args in
+    rows-are at ∙ shown-bare (a .sheet) (now (a .font)) (a .dark) (a .at) (at .before .before .before .if1 .left) (c .before .before .before .if2 .left ∙ at .position .ensures) (c .before .if3 .left) (c .if4 .left)
 
 pub shown-spec : {M : Type 1} → statement M
 shown-spec =
     tie.close
     (tie.spec
     returns
-    cast-shape
-    add-shape
-    cast-shape-2
-    read-requires
+    code-at-requires
     shape-requires
     position-requires
     returns-2

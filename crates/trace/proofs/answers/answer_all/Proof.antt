@@ -5,16 +5,13 @@ use Rattle.trace.proofs.answers.answer_all.Statement.{statement}
 use Rattle.trace.proofs.answers.answer_all.Tie as tie
 
 abbrev Inv-loop : tie.InvT-loop
-Inv-loop block₀ stream₀ input₀ block stream input = length block ≡ length block₀
+Inv-loop block₀ refusal stream₀ input₀ block stream input = length block ≡ length block₀
 
 abbrev μ-loop : tie.MeasureT-loop
-μ-loop block₀ stream₀ input₀ block stream input = input .left
+μ-loop block₀ refusal stream₀ input₀ block stream input = input .left
 
-slice-aggregate-say : tie.Need-slice-aggregate-say Inv-loop μ-loop
-slice-aggregate-say c = search needs
-
-say-requires : tie.Need-say-requires Inv-loop μ-loop
-say-requires c κs = search needs
+refusal-of-requires : tie.Need-refusal-of-requires Inv-loop μ-loop
+refusal-of-requires c κs = search needs
 
 start-requires : tie.Need-start-requires Inv-loop μ-loop
 start-requires c κs = search needs
@@ -40,6 +37,9 @@ loop-less c = search needs
 loop-again : tie.Need-loop-again Inv-loop μ-loop
 loop-again c = search needs
 
+ended-requires : tie.Need-ended-requires Inv-loop μ-loop
+ended-requires c κs = search needs
+
 same-length : tie.Need-same-length Inv-loop μ-loop
 same-length c = search needs
 
@@ -52,8 +52,7 @@ answer-all-spec =
     (tie.spec
     Inv-loop
     μ-loop
-    slice-aggregate-say
-    say-requires
+    refusal-of-requires
     start-requires
     loop-holds
     read-requires
@@ -62,5 +61,6 @@ answer-all-spec =
     answer-part-requires
     loop-less
     loop-again
+    ended-requires
     same-length
     returns)

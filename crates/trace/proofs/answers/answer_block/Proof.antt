@@ -31,7 +31,7 @@ next-requires c κs = search needs
 add-at : tie.Need-add-at Inv-loop μ-loop
 add-at c =
     let b = c .before .before .before .before .before in
-    omega (arith, b .before .before .good, next-reaches (now (b .before .before .args .block)) (b .loop .at) (b .loop .stream) (c .before .before .next .result) (b .loop .inv) (c .before .before .next .ensures))
+    omega (arith, b .before .before .good, next-reaches (now (b .before .before .args .block)) (b .loop .at) (b .loop .stream) (c .before .before .next .result) (b .loop .inv) (c .before .before .next .ensures .is))
 
 enum-known-reply : tie.Need-enum-known-reply Inv-loop μ-loop
 enum-known-reply c = search needs
@@ -52,7 +52,7 @@ loop-again : tie.Need-loop-again Inv-loop μ-loop
 loop-again c =
     let n = c .before .before .before .before .before .before .before .before in
     let b = n .before .before .before in
-    next-reaches (now (b .before .before .args .block)) (b .loop .at) (b .loop .stream) (n .next .result) (b .loop .inv) (n .next .ensures)
+    next-reaches (now (b .before .before .args .block)) (b .loop .at) (b .loop .stream) (n .next .result) (b .loop .inv) (n .next .ensures .is)
 
 write-lines-requires : tie.Need-write-lines-requires Inv-loop μ-loop
 write-lines-requires c κs = search needs

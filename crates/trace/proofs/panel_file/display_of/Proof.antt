@@ -1,18 +1,22 @@
-use Prim.Native.Nat.{_-_, _≤_}
-use mathlib.Core.Path.{_≡_}
-use lib.ListN.{length}
+-- The memory is filled from the front.
+use Prim.Native.Nat.{_-_}
+use mathlib.Core.Path.{refl}
+use native.Mathlib.Omega.{arith}
+use Rattle.dots.specs.TableLaws.{Filled, fill-start, fill-step, fill-end}
+use Rattle.chip.specs.Address.{displaySize}
+use Rattle.trace.specs.PanelFile.{byteIn}
 use borrow.Author.Needs.{needs}
 use Rattle.trace.proofs.panel_file.display_of.Statement.{statement}
 use Rattle.trace.proofs.panel_file.display_of.Tie as tie
 
 abbrev Inv-loop : tie.InvT-loop
-Inv-loop bytes display₀ i₀ display i = (length bytes ≡ 4096) × (length display ≡ 16) × (i ≤ 16)
+Inv-loop bytes display₀ i₀ display i = Filled (byteIn bytes) displaySize display i
 
 abbrev μ-loop : tie.MeasureT-loop
-μ-loop bytes display₀ i₀ display i = 16 - i
+μ-loop bytes display₀ i₀ display i = displaySize - i
 
 loop-holds : tie.Need-loop-holds Inv-loop μ-loop
-loop-holds c = search needs
+loop-holds c = fill-start _ _ _ refl
 
 array-read-display : tie.Need-array-read-display Inv-loop μ-loop
 array-read-display c = search needs
@@ -27,10 +31,10 @@ loop-less : tie.Need-loop-less Inv-loop μ-loop
 loop-less c = search needs
 
 loop-again : tie.Need-loop-again Inv-loop μ-loop
-loop-again c = search needs
+loop-again c = fill-step _ _ _ _ _ (c .before .loop .inv) (omega arith) refl
 
 returns : tie.Need-returns Inv-loop μ-loop
-returns c = search needs
+returns c = fill-end _ _ _ _ (c .before .loop .inv) (omega arith)
 
 pub display-of-spec : {M : Type 1} → statement M
 display-of-spec =

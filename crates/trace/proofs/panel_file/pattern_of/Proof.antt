@@ -1,18 +1,22 @@
-use Prim.Native.Nat.{_-_, _≤_}
-use mathlib.Core.Path.{_≡_}
-use lib.ListN.{length}
+-- The memory is filled from the front.
+use Prim.Native.Nat.{_+_, _-_}
+use mathlib.Core.Path.{refl}
+use native.Mathlib.Omega.{arith}
+use Rattle.dots.specs.TableLaws.{Filled, fill-start, fill-step, fill-end}
+use Rattle.chip.specs.Address.{displaySize, patternSize}
+use Rattle.trace.specs.PanelFile.{byteIn}
 use borrow.Author.Needs.{needs}
 use Rattle.trace.proofs.panel_file.pattern_of.Statement.{statement}
 use Rattle.trace.proofs.panel_file.pattern_of.Tie as tie
 
 abbrev Inv-loop : tie.InvT-loop
-Inv-loop bytes pattern₀ i₀ pattern i = (length bytes ≡ 4096) × (length pattern ≡ 32) × (i ≤ 32)
+Inv-loop bytes pattern₀ i₀ pattern i = Filled (λ i. byteIn bytes (displaySize + i)) patternSize pattern i
 
 abbrev μ-loop : tie.MeasureT-loop
-μ-loop bytes pattern₀ i₀ pattern i = 32 - i
+μ-loop bytes pattern₀ i₀ pattern i = patternSize - i
 
 loop-holds : tie.Need-loop-holds Inv-loop μ-loop
-loop-holds c = search needs
+loop-holds c = fill-start _ _ _ refl
 
 add-pattern : tie.Need-add-pattern Inv-loop μ-loop
 add-pattern c = search needs
@@ -30,10 +34,10 @@ loop-less : tie.Need-loop-less Inv-loop μ-loop
 loop-less c = search needs
 
 loop-again : tie.Need-loop-again Inv-loop μ-loop
-loop-again c = search needs
+loop-again c = fill-step _ _ _ _ _ (c .before .loop .inv) (omega arith) refl
 
 returns : tie.Need-returns Inv-loop μ-loop
-returns c = search needs
+returns c = fill-end _ _ _ _ (c .before .loop .inv) (omega arith)
 
 pub pattern-of-spec : {M : Type 1} → statement M
 pattern-of-spec =

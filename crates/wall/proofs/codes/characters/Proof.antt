@@ -1,18 +1,23 @@
-use Prim.Native.Nat.{_-_, _≤_}
-use mathlib.Core.Path.{_≡_}
-use lib.ListN.{length}
+-- The characters are filled from the front.
+use Prim.Native.Nat.{_-_}
+use mathlib.Core.Path.{refl}
+use native.Mathlib.Omega.{arith}
+use lib.ListN.{getD}
+use Rattle.dots.specs.TableLaws.{Filled, fill-start, fill-step, fill-end}
+use Rattle.chip.specs.Address.{displaySize}
+use Rattle.wall.specs.Text.{characterOf}
 use borrow.Author.Needs.{needs}
 use Rattle.wall.proofs.codes.characters.Statement.{statement}
 use Rattle.wall.proofs.codes.characters.Tie as tie
 
 abbrev Inv-loop : tie.InvT-loop
-Inv-loop codes characters₀ at₀ characters at = (length codes ≡ 16) × (length characters ≡ 16) × (at ≤ 16)
+Inv-loop codes characters₀ at₀ characters at = Filled (λ p. characterOf (getD codes p 0)) displaySize characters at
 
 abbrev μ-loop : tie.MeasureT-loop
-μ-loop codes characters₀ at₀ characters at = 16 - at
+μ-loop codes characters₀ at₀ characters at = displaySize - at
 
 loop-holds : tie.Need-loop-holds Inv-loop μ-loop
-loop-holds c = search needs
+loop-holds c = fill-start _ _ _ refl
 
 array-read-character : tie.Need-array-read-character Inv-loop μ-loop
 array-read-character c = search needs
@@ -30,10 +35,10 @@ loop-less : tie.Need-loop-less Inv-loop μ-loop
 loop-less c = search needs
 
 loop-again : tie.Need-loop-again Inv-loop μ-loop
-loop-again c = search needs
+loop-again c = fill-step _ _ _ _ _ (c .before .before .loop .inv) (omega arith) (c .character .ensures)
 
 returns : tie.Need-returns Inv-loop μ-loop
-returns c = search needs
+returns c = fill-end _ _ _ _ (c .before .loop .inv) (omega arith)
 
 pub characters-spec : {M : Type 1} → statement M
 characters-spec =

@@ -17,8 +17,11 @@ draw-edge-requires c κs = search needs
 loop-holds : tie.Need-loop-holds Inv-loop μ-loop
 loop-holds c = search needs
 
-draw-row-requires : tie.Need-draw-row-requires Inv-loop μ-loop
-draw-row-requires c κs = search needs
+row-line-requires : tie.Need-row-line-requires Inv-loop μ-loop
+row-line-requires c κs = search needs
+
+write-requires : tie.Need-write-requires Inv-loop μ-loop
+write-requires c κs = search needs
 
 add-row : tie.Need-add-row Inv-loop μ-loop
 add-row c = search needs
@@ -43,7 +46,8 @@ draw-rows-spec =
     μ-loop
     draw-edge-requires
     loop-holds
-    draw-row-requires
+    row-line-requires
+    write-requires
     add-row
     loop-less
     loop-again

@@ -35,7 +35,7 @@ add-at : tie.Need-add-at Inv-loop μ-loop
 add-at c =
     let n = c .before .before .before .before in
     let b = n .before .before .before in
-    omega (arith, b .before .before .good, next-reaches (now (b .before .before .args .block)) (b .loop .at) (b .loop .stream) (n .next .result) (b .loop .inv) (n .next .ensures))
+    omega (arith, b .before .before .good, next-reaches (now (b .before .before .args .block)) (b .loop .at) (b .loop .stream) (n .next .result) (b .loop .inv) (n .next .ensures .is))
 
 answered-requires : tie.Need-answered-requires Inv-loop μ-loop
 answered-requires c κs = search needs
@@ -50,7 +50,7 @@ loop-again : tie.Need-loop-again Inv-loop μ-loop
 loop-again c =
     let n = c .before .before .before .before .before .before in
     let b = n .before .before .before in
-    next-reaches (now (b .before .before .args .block)) (b .loop .at) (b .loop .stream) (n .next .result) (b .loop .inv) (n .next .ensures)
+    next-reaches (now (b .before .before .args .block)) (b .loop .at) (b .loop .stream) (n .next .result) (b .loop .inv) (n .next .ensures .is)
 
 returns : tie.Need-returns Inv-loop μ-loop
 returns c = search needs

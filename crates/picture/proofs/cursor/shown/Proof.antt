@@ -1,0 +1,15 @@
+use borrow.Author.Needs.{needs}
+use Rattle.picture.proofs.cursor.shown.Statement.{statement}
+use Rattle.picture.proofs.cursor.shown.Tie as tie
+
+position-requires : tie.Need-position-requires
+position-requires c κs = search needs
+
+returns : tie.Need-returns
+returns c = rw (c .position .ensures, c .before .if1 .taken)
+
+returns-2 : tie.Need-returns-2
+returns-2 c = rw (c .if1 .left)
+
+pub shown-spec : {M : Type 1} → statement M
+shown-spec = tie.close (tie.spec position-requires returns returns-2)

@@ -1,0 +1,15 @@
+use borrow.Author.Tests.{le-ltb, lt-ltb}
+use Rattle.wall.proofs.codes.character.Statement.{statement}
+use Rattle.wall.proofs.codes.character.Tie as tie
+
+returns : tie.Need-returns
+returns c = rw (lt-ltb _ _ (c .if1 .taken))
+
+returns-2 : tie.Need-returns-2
+returns-2 c = rw (le-ltb _ _ (c .before .if1 .left), lt-ltb _ _ (c .if2 .taken))
+
+returns-3 : tie.Need-returns-3
+returns-3 c = rw (le-ltb _ _ (c .before .if1 .left), le-ltb _ _ (c .if2 .left))
+
+pub character-spec : {M : Type 1} → statement M
+character-spec = tie.close (tie.spec returns returns-2 returns-3)

@@ -1,0 +1,42 @@
+use mathlib.Core.Path.{ap, _∙_}
+use mathlib.Core.List.{List}
+use Prim.Native.Nat.{ℕ}
+use lib.ListN.{take}
+use denote.Ref.{now}
+use Rattle.picture.specs.Paint.{frameAfter}
+use borrow.Author.Needs.{needs}
+use Rattle.wall.proofs.draw.painted.Statement.{statement}
+use Rattle.wall.proofs.draw.painted.Tie as tie
+
+slice-aggregate-held : tie.Need-slice-aggregate-held
+slice-aggregate-held c = search needs
+
+held-requires : tie.Need-held-requires
+held-requires c κs = search needs
+
+array-share-prefix-dots : tie.Need-array-share-prefix-dots
+array-share-prefix-dots c = search needs
+
+slice-aggregate-paint : tie.Need-slice-aggregate-paint
+slice-aggregate-paint c = search needs
+
+slice-aggregate-paint-2 : tie.Need-slice-aggregate-paint-2
+slice-aggregate-paint-2 c = search needs
+
+paint-requires : tie.Need-paint-requires
+paint-requires c κs = search needs
+
+returns : tie.Need-returns
+returns c = rw (c .before .paint .ensures .left, c .before .before .before .before .held .ensures .is)
+
+pub painted-spec : {M : Type 1} → statement M
+painted-spec =
+    tie.close
+    (tie.spec
+    slice-aggregate-held
+    held-requires
+    array-share-prefix-dots
+    slice-aggregate-paint
+    slice-aggregate-paint-2
+    paint-requires
+    returns)
