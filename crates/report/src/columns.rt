@@ -10,7 +10,7 @@ use account::entry::What;
 use log::flaw::Flaw;
 use mirror::answer::Answer;
 
-pub fn put_names(page: &mut [u8; PAGE], at: usize) -> usize {
+pub(crate) fn put_names(page: &mut [u8; PAGE], at: usize) -> usize {
     put(
         page,
         at,
@@ -28,7 +28,7 @@ fn put_second(page: &mut [u8; PAGE], at: usize, second: u64) -> usize {
 }
 
 // A time and its clock.
-pub fn put_time(page: &mut [u8; PAGE], at: usize, time: u64) -> usize {
+pub(crate) fn put_time(page: &mut [u8; PAGE], at: usize, time: u64) -> usize {
     let a = put(page, at, b"\t");
     let b = put_number(page, a, time);
     let c = put(page, b, b"\t");
@@ -135,7 +135,7 @@ fn put_meaning(page: &mut [u8; PAGE], at: usize, meaning: Meaning) -> usize {
     }
 }
 
-pub fn put_line(page: &mut [u8; PAGE], at: usize, line: Line) -> usize {
+pub(crate) fn put_line(page: &mut [u8; PAGE], at: usize, line: Line) -> usize {
     let answer = line.answer;
     let what = line.what;
     let byte = line.byte;

@@ -1,14 +1,16 @@
 // What is to be written, gathered on a page that is written out whenever it is full. Each function answers where the next
 // byte goes.
 ghost use Prim.Native.Nat.{_<_};
+ghost use mathlib.Core.Path.{_≡_};
+ghost use Rattle.report.specs.Page.{Clock, Decimal, Hours, Placed, Puts, PutsByte, PutsSome, twoOf, withinHour};
 use desk::bytes::held;
 use desk::print::show;
 
-pub const PAGE: usize = 4096;
+pub(crate) const PAGE: usize = 4096;
 
 // Where there is room for a byte: at the front, once a full page was written out.
 fn room(page: &[u8; PAGE], at: usize) -> usize
-    ensures { λ r. ⌜ r < 4096 ⌝ }
+    ensures { λ r. ⌜ Placed at r ⌝ }
 {
     if PAGE <= at {
         show(page);
@@ -17,13 +19,17 @@ fn room(page: &[u8; PAGE], at: usize) -> usize
     at
 }
 
-fn put_byte(page: &mut [u8; PAGE], at: usize, byte: u8) -> usize {
+fn put_byte(page: &mut [u8; PAGE], at: usize, byte: u8) -> usize
+    ensures { λ r. ⌜ PutsByte byte (now (page .entry)) at (now (page .exit)) r ⌝ }
+{
     let n = room(page, at);
     page[n] = byte;
     n + 1
 }
 
-pub fn put(page: &mut [u8; PAGE], at: usize, bytes: &[u8]) -> usize {
+pub(crate) fn put(page: &mut [u8; PAGE], at: usize, bytes: &[u8]) -> usize
+    ensures { λ r. ⌜ Puts (now (bytes .entry)) (now (page .entry)) at (now (page .exit)) r ⌝ }
+{
     let mut end = at;
     let mut i: usize = 0;
     while i < bytes.len() {
@@ -34,39 +40,57 @@ pub fn put(page: &mut [u8; PAGE], at: usize, bytes: &[u8]) -> usize {
 }
 
 // A number in decimal.
-pub fn put_number(page: &mut [u8; PAGE], at: usize, n: u64) -> usize {
+pub(crate) fn put_number(page: &mut [u8; PAGE], at: usize, n: u64) -> usize
+    ensures { λ r. ⌜ PutsSome (Decimal n) (now (page .entry)) at (now (page .exit)) r ⌝ }
+{
     let mut digits = [0u8; 20];
     let k = io::decimal(n, &mut digits);
     put(page, at, &digits[..k])
 }
 
 // The last two digits of a number in decimal.
-fn put_two(page: &mut [u8; PAGE], at: usize, n: u64) -> usize {
+fn put_two(page: &mut [u8; PAGE], at: usize, n: u64) -> usize
+    ensures { λ r. ⌜ Puts (twoOf n) (now (page .entry)) at (now (page .exit)) r ⌝ }
+{
     let tens = text::digit((n / 10 % 10) as u8);
     let ones = text::digit((n % 10) as u8);
     put(page, at, &[tens, ones])
 }
 
+// Two digits, and more from 100 on.
+fn put_hours(page: &mut [u8; PAGE], at: usize, hours: u64) -> usize
+    ensures { λ r. ⌜ PutsSome (Hours hours) (now (page .entry)) at (now (page .exit)) r ⌝ }
+{
+    if hours < 100 {
+        return put_two(page, at, hours);
+    }
+    put_number(page, at, hours)
+}
+
+// Minutes, seconds and millionths.
+fn put_within(page: &mut [u8; PAGE], at: usize, time: u64) -> usize
+    ensures { λ r. ⌜ Puts (withinHour time) (now (page .entry)) at (now (page .exit)) r ⌝ }
+{
+    let a = put(page, at, b":");
+    let b = put_two(page, a, time / 60000000 % 60);
+    let c = put(page, b, b":");
+    let d = put_two(page, c, time / 1000000 % 60);
+    let e = put(page, d, b".");
+    let f = put_two(page, e, time / 10000);
+    let g = put_two(page, f, time / 100);
+    put_two(page, g, time)
+}
+
 // A time as hours, minutes, seconds and millionths.
-pub fn put_clock(page: &mut [u8; PAGE], at: usize, time: u64) -> usize {
-    let hours = time / 3600000000;
-    let a = if hours < 100 {
-        put_two(page, at, hours)
-    } else {
-        put_number(page, at, hours)
-    };
-    let b = put(page, a, b":");
-    let c = put_two(page, b, time / 60000000 % 60);
-    let d = put(page, c, b":");
-    let e = put_two(page, d, time / 1000000 % 60);
-    let f = put(page, e, b".");
-    let g = put_two(page, f, time / 10000);
-    let h = put_two(page, g, time / 100);
-    put_two(page, h, time)
+pub(crate) fn put_clock(page: &mut [u8; PAGE], at: usize, time: u64) -> usize
+    ensures { λ r. ⌜ PutsSome (Clock time) (now (page .entry)) at (now (page .exit)) r ⌝ }
+{
+    let a = put_hours(page, at, time / 3600000000);
+    put_within(page, a, time)
 }
 
 // Writes out what is on the page.
-pub fn write_out(page: &[u8; PAGE], at: usize) {
+pub(crate) fn write_out(page: &[u8; PAGE], at: usize) {
     let all: &[u8] = page;
     let n = held(all, at);
     show(&all[..n]);

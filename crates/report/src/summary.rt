@@ -14,7 +14,7 @@ fn put_count(page: &mut [u8; PAGE], at: usize, name: &[u8], n: u64) -> usize {
     put(page, d, b"\n")
 }
 
-pub fn put_counts(page: &mut [u8; PAGE], at: usize, run: Run) -> usize {
+pub(crate) fn put_counts(page: &mut [u8; PAGE], at: usize, run: Run) -> usize {
     let counts = run.counts;
     let a = put_count(page, at, b"records", run.records);
     let b = put_count(page, a, b"taken", counts[0]);
@@ -40,7 +40,7 @@ fn put_place(page: &mut [u8; PAGE], at: usize, name: &[u8], there: bool, time: u
     put(page, c, b"\n")
 }
 
-pub fn put_found(page: &mut [u8; PAGE], at: usize, found: Found) -> usize {
+pub(crate) fn put_found(page: &mut [u8; PAGE], at: usize, found: Found) -> usize {
     let there = found.count != 0;
     let a = put_count(page, at, b"written-again", found.count);
     let b = put_place(page, a, b"first-written-again", there, found.first);

@@ -1,3 +1,6 @@
+-- What is left, put on the page as it is, comes to all of it.
+use native.Mathlib.Omega.{arith}
+use Rattle.report.specs.PageLaws.{Left, left-start, left-step, left-end}
 use Prim.Native.Nat.{_-_, _≤_}
 use lib.ListN.{length}
 use borrow.Author.Needs.{needs}
@@ -5,13 +8,13 @@ use Rattle.report.proofs.page.put.Statement.{statement}
 use Rattle.report.proofs.page.put.Tie as tie
 
 abbrev Inv-loop : tie.InvT-loop
-Inv-loop page₀ at bytes end₀ i₀ page end i = i ≤ length bytes
+Inv-loop page₀ at bytes end₀ i₀ page end i = Left bytes i page end page₀ at × (i ≤ length bytes)
 
 abbrev μ-loop : tie.MeasureT-loop
 μ-loop page₀ at bytes end₀ i₀ page end i = length bytes - i
 
 loop-holds : tie.Need-loop-holds Inv-loop μ-loop
-loop-holds c = search needs
+loop-holds c = (left-start _ _ _, omega arith)
 
 shared-slice-read-put-byte : tie.Need-shared-slice-read-put-byte Inv-loop μ-loop
 shared-slice-read-put-byte c = search needs
@@ -26,10 +29,10 @@ loop-less : tie.Need-loop-less Inv-loop μ-loop
 loop-less c = search needs
 
 loop-again : tie.Need-loop-again Inv-loop μ-loop
-loop-again c = search needs
+loop-again c = (left-step _ _ _ _ _ _ _ _ (c .before .before .before .before .loop .inv .0) (c .before .before .before .loop-test .taken) (c .put-byte .ensures), omega arith)
 
 returns : tie.Need-returns Inv-loop μ-loop
-returns c = search needs
+returns c = left-end _ _ _ _ _ _ (c .before .loop .inv .0) (omega arith)
 
 pub put-spec : {M : Type 1} → statement M
 put-spec =
