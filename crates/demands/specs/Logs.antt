@@ -12,15 +12,14 @@ use Rattle.chip.specs.Sound.{patternFits}
 use Rattle.mirror.specs.Panel.{freshPanel}
 use Rattle.mirror.specs.Answers.{Bytes, Typed, Proper}
 use Rattle.mirror.specs.TypedLaws.{typed-proper}
-use Rattle.mirror.specs.Record.{transferred}
-use Rattle.mirror.specs.Table.{recordOf}
+use Rattle.mirror.specs.Table.{rowFor, recordOf}
 use Rattle.mirror.specs.Run.{tallied, onward}
 use Rattle.mirror.specs.Stream.{runOf}
 use Rattle.mirror.specs.declared.panel.Panel.{Panel}
 
 -- what computes when a log is answered
 unfoldable pub answering : ℕ
-unfolding num16 num64 cutAt badAt frameOf piecesFrom patternFits transferred recordOf tallied onward runOf
+unfolding num16 num64 cutAt badAt frameOf piecesFrom patternFits rowFor recordOf tallied onward runOf
 answering = 0
 
 -- a time below 65,536

@@ -16,8 +16,8 @@ use Rattle.log.specs.Carry.{carriedOf, reach, more, filled, left}
 use Rattle.log.specs.CarryLaws.{wanting-wants, fill-front, more-left}
 use Rattle.mirror.specs.Answer.{Paper}
 use Rattle.mirror.specs.Panel.{soundPanel}
-use Rattle.mirror.specs.Table.{isBack, transferFor, numberFor, byteFor, Tabled}
-use Rattle.mirror.specs.TableLaws.{answered-sound, tabled}
+use Rattle.mirror.specs.Table.{isBack, transferFor, numberFor, byteFor, Tabled, rowFor}
+use Rattle.mirror.specs.TableLaws.{answered-row, row-sound, tabled}
 use Rattle.mirror.specs.Promise.{spoken, Replies, summed, Runs}
 use Rattle.mirror.specs.Record.{answered}
 use Rattle.mirror.specs.Run.{started, counted, onward}
@@ -40,7 +40,7 @@ pub record Going (st : Stream) : Type 0 where
 -- `nextOf` with its three tests, the bytes and their number apart
 nextBy : Stream → Bool → Bool → Bool → List ℕ → ℕ → Next
 nextBy st refused over cut v n =
-    let r = answered (frameOf v) (st .totals .panel) in
+    let r = rowFor (st .totals .panel) v in
     pick refused (record { stream = st; taken = 0; reply = Refused })
     (pick over (record { stream = st; taken = 0; reply = Cut })
     (pick cut (record { stream = restedOf st (st .totals) v; taken = n; reply = pick (wantsMore v) More Cut })
@@ -90,7 +90,7 @@ pub next-goes : {st : Stream} {part v : List ℕ} {taken : ℕ} → Fed st part 
     (r .used ≡ 0 → ⊥) → record { stream = restedOf st (counted (st .totals) r) []; taken = taken; reply = Answered (r .answer) (r .byte) } ≡ nextOf st part
 unfolding nextBy
 next-goes {st} {part} {v} {taken} f o r e z =
-    ap (λ (x : Recorded). record { stream = restedOf st (counted (st .totals) x) []; taken = taken; reply = Answered (x .answer) (x .byte) }) e ∙
+    ap (λ (x : Recorded). record { stream = restedOf st (counted (st .totals) x) []; taken = taken; reply = Answered (x .answer) (x .byte) }) (e ∙ answered-row (st .totals .panel) v) ∙
     by-tests false f o (uncut-used v (st .totals .panel) (λ x. z (ap (λ (y : Recorded). y .used) e ∙ x)))
 
 -- the next record alone is the bytes it needs, fed
@@ -104,7 +104,7 @@ next-feeds st part g =
     ap (λ x. pick x cut (rest (cutAt v)) .stream) (g .unended) ∙ by (cutAt v) refl ∙ sym (feed-open st (more c part) (g .unended))
   where
     r : Recorded
-    r = answered (frameOf (filled (waitingBytes st) part)) (st .totals .panel)
+    r = rowFor (st .totals .panel) (filled (waitingBytes st) part)
 
     rest : Bool → Next
     rest b =
@@ -176,8 +176,7 @@ spoken-by st v n s false false true false u m =
 spoken-by st v n s false false false true u m = absurd (false≢true (sym u ∙ wants-cut v m))
 spoken-by st v n s false false false false u m =
     let p = st .totals .panel in
-    let r = answered (frameOf v) p in
-    let t = subst (Tabled p v) (sym (answered-sound p v s)) (tabled p v) in
+    let t = subst (Tabled p v) (sym (row-sound p v s)) (tabled p v) in
     ap (λ (x : Paper). some x) (t .paper) ∙ ap (λ x. some (record { number = numberFor p v; byte = x })) (t .byte)
 
 pub replies : (st : Stream) (part : List ℕ) (r : Next) → r ≡ nextOf st part → Replies st part r

@@ -4,10 +4,9 @@ use mathlib.Core.List.{List, [], _∷_}
 use lib.ListN.{length, getD, set, replicate}
 use lib.Dec.{ltb}
 use Rattle.laws.specs.Pick.{pick}
-use Rattle.log.specs.Frame.{frameOf}
 use Rattle.log.specs.Frames.{frames, tail}
 use Rattle.mirror.specs.Answer.{numberOf}
-use Rattle.mirror.specs.Record.{answered}
+use Rattle.mirror.specs.Table.{rowFor}
 use Rattle.mirror.specs.declared.answer.Answer.{Answer}
 use Rattle.mirror.specs.declared.panel.Panel.{Panel}
 use Rattle.mirror.specs.declared.record.Recorded.{Recorded}
@@ -42,7 +41,7 @@ counted t r = record { panel = r .panel; counts = tallied (t .counts) (r .answer
 
 -- one record more, given by its own bytes
 abbrev pub advanced : Totals → List ℕ → Totals
-advanced t bytes = counted t (answered (frameOf bytes) (t .panel))
+advanced t bytes = counted t (rowFor (t .panel) bytes)
 
 -- records one after another
 unfoldable pub onward : Totals → List (List ℕ) → Totals

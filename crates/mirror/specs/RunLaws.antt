@@ -19,6 +19,7 @@ use Rattle.chip.specs.Sheet.{freshSheet}
 use Rattle.mirror.specs.Way.{Way, wayOf}
 use Rattle.mirror.specs.Words.{joinedOf, free, done}
 use Rattle.mirror.specs.Record.{recorded, went, transferred, answered}
+use Rattle.mirror.specs.TableLaws.{answered-row}
 use Rattle.mirror.specs.Run.{counted, advanced, onward, consumedOf}
 use Rattle.mirror.specs.declared.answer.Answer.the-variants as say
 use Rattle.mirror.specs.declared.panel.Panel.{Panel}
@@ -89,7 +90,8 @@ goes t s r e z =
     let w = ap (λ (x : Recorded). x .used) e ∙ answered-used (frameOf s) (t .panel) ∙ size-whole s in
     let f = front s (r .used) w z in
     let n = front-next f in
-    let a : advanced t (take (r .used) s) ≡ counted t r = ap (λ x. counted t (answered x (t .panel))) (frame-take f) ∙ ap (counted t) (sym e) in
+    let a : advanced t (take (r .used) s) ≡ counted t r =
+    ap (counted t) (sym (answered-row (t .panel) (take (r .used) s)) ∙ ap (λ x. answered x (t .panel)) (frame-take f) ∙ sym e) in
     record {
       totals = sym (ap (λ (x : Pieces). onward t (x .records)) n ∙ ap (λ x. onward x (frames (drop (r .used) s))) a);
       rest = sym (ap (λ (x : Pieces). x .rest) n);

@@ -10,7 +10,7 @@ use Rattle.log.specs.Frames.{frames, tail, recordsOf}
 use Rattle.log.specs.Flaw.{flawOf}
 use Rattle.log.specs.Carry.{carriedOf, carryOf, wantingOf, more, filled}
 use Rattle.mirror.specs.Panel.{soundPanel, freshPanel}
-use Rattle.mirror.specs.Record.{answered}
+use Rattle.mirror.specs.Table.{rowFor}
 use Rattle.mirror.specs.Run.{capped, raised, started, counted, onward}
 use Rattle.mirror.specs.declared.panel.Panel.{Panel}
 use Rattle.mirror.specs.declared.totals.Totals.{Totals}
@@ -70,7 +70,7 @@ unfoldable pub nextOf : Stream → List ℕ → Next
 nextOf st part =
     let v = filled (waitingBytes st) part in
     let n = length (more (waitingBytes st) part) in
-    let r = answered (frameOf v) (st .totals .panel) in
+    let r = rowFor (st .totals .panel) v in
     pick (st .refused) (record { stream = st; taken = 0; reply = Refused })
     (pick (st .over) (record { stream = st; taken = 0; reply = Cut })
     (pick (cutAt v) (record { stream = restedOf st (st .totals) v; taken = n; reply = pick (wantsMore v) More Cut })

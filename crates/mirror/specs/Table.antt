@@ -71,14 +71,17 @@ transferFor p log =
     (pick (isFirst p) 1
     (pick (isStatus log) 2 0))))
 
--- the answer's number. Order: 10, 8, 6, 5; then a reset is taken; then a transfer's
-abbrev pub numberFor : Panel → List ℕ → ℕ
-numberFor p log =
-    pick (not (soundPanel p)) 10
-    (pick (cutAt log) 8
+-- the number of a record whose panel is sound. Order: 8, 6, 5; then a reset is taken; then a transfer's
+abbrev pub heardFor : Panel → List ℕ → ℕ
+heardFor p log =
+    pick (cutAt log) 8
     (pick (badAt log) 6
     (pick (isBack p log) 5
-    (pick (isReset log) 0 (transferFor p log)))))
+    (pick (isReset log) 0 (transferFor p log))))
+
+-- the answer's number: 10 comes first
+abbrev pub numberFor : Panel → List ℕ → ℕ
+numberFor p log = pick (not (soundPanel p)) 10 (heardFor p log)
 
 -- what a read gives: the status, or the byte at the address
 abbrev pub sourceOf : Panel → List ℕ → ℕ
@@ -143,6 +146,18 @@ Tabled p log r = Row (numberFor p log) p log r
 -- what that row describes
 abbrev pub rowOf : ℕ → Panel → List ℕ → Recorded
 rowOf n p log = record { panel = panelFor n p log; answer = answerOf n; byte = byteFor n p log; used = usedFor n log }
+
+-- the row without the test of the panel, which a run makes once. At width 8 it passes over a half that no sound panel has there
+abbrev pub wholeAt : Panel → Panel
+wholeAt p = record { sheet = p .sheet; busy = p .busy; half = pick (p .sheet .registers .eight) Empty (p .half); times = p .times; last = p .last }
+
+abbrev pub rowWith : Panel → Panel → List ℕ → Recorded
+rowWith q p log =
+    let n = heardFor q log in
+    record { panel = panelFor n p log; answer = answerOf n; byte = byteFor n q log; used = usedFor n log }
+
+unfoldable pub rowFor : Panel → List ℕ → Recorded
+rowFor p log = rowWith (wholeAt p) p log
 
 -- one record at the front of a log
 unfoldable pub recordOf : Panel → List ℕ → Recorded
