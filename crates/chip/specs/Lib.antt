@@ -3,7 +3,5 @@ pub mod Instruction
 pub mod Sheet
 pub mod Step
 pub mod Sound
-pub mod StepLaws
-pub mod WidthLaws
-pub mod SoundLaws
-pub mod FunctionLaws
+pub mod Regardless
+pub mod laws

@@ -2,6 +2,7 @@
 -- Struck are the records answered 2 to 7, and the first halves of pairs answered so; the unreadable tail stays out of it.
 use Prim.Native.Nat.{ℕ, _≤_}
 use mathlib.Core.Path.{_≡_}
+use mathlib.Core.Bool.{false}
 use mathlib.Core.List.{List, [], _∷_, Sublistᴰ}
 use lib.Dec.{eqb}
 use Rattle.laws.specs.Pick.{pick}
@@ -12,7 +13,8 @@ use Rattle.mirror.specs.Answers.{Typed}
 use Rattle.mirror.specs.declared.panel.Panel.{Panel}
 use Rattle.striking.specs.Machine.{Answered, events}
 use Rattle.striking.specs.Striking.{unstruck}
-use Rattle.demands.specs.Mirrors.{Reply, Mirror, settledPanel, machineOf}
+use Rattle.mirror.specs.Stream.{runOf}
+use Rattle.demands.specs.Mirrors.{Reply, Mirror, ours, settledPanel, machineOf}
 use Rattle.demands.specs.Answers.{answersBy, panelBy}
 
 -- the records that stay, with what they were told: read off the log and its answers alone
@@ -53,3 +55,10 @@ pub record StruckFrom (m : Mirror) (p : Panel) (log : List ℕ) : Type 0 where
 -- DEMAND 3, SECOND HALF, of any mirror: from a fresh panel, for any log
 abbrev pub Strikes : Mirror → Type 0
 Strikes m = (reset long short : ℕ) (log : List ℕ) → Typed reset long short log → StruckFrom m (freshPanel reset long short) log
+
+-- and of two runs from a panel: the same sheet and the same busy end, and the struck log is not cut
+pub record SameRun (p : Panel) (log : List ℕ) : Type 0 where
+  pub panel : settledPanel (runOf p (struckLog ours p log) .panel) ≡ settledPanel (runOf p log .panel)
+  pub sheet : runOf p (struckLog ours p log) .panel .sheet ≡ runOf p log .panel .sheet
+  pub busy : runOf p (struckLog ours p log) .panel .busy ≡ runOf p log .panel .busy
+  pub cut : runOf p (struckLog ours p log) .cut ≡ false

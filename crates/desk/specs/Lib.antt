@@ -1,5 +1,5 @@
 pub mod Held
 pub mod Number
-pub mod NumberLaws
 pub mod Reads
-pub mod NumberCases
+pub mod laws
+pub mod cases

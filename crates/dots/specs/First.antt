@@ -1,5 +1,7 @@
 -- The first place at which a test is true.
-use Prim.Native.Nat.{ℕ, zero, suc, _+_}
+use Prim.Native.Nat.{ℕ, zero, suc, _+_, _<_}
+use mathlib.Core.Path.{_≡_}
+use mathlib.Core.Logic.{_⊎_}
 use mathlib.Core.Bool.{Bool}
 use Rattle.laws.specs.Pick.{pick}
 
@@ -12,3 +14,7 @@ first t found none x (suc k) = pick (t x) (found x) (first t found none (x + 1) 
 unfoldable pub firstDot : {A : Type 0} → (ℕ → ℕ → Bool) → (ℕ → ℕ → A) → A → (cols : ℕ) → ℕ → ℕ → A
 firstDot t found none cols r zero = none
 firstDot t found none cols r (suc k) = first (t r) (found r) (firstDot t found none cols (r + 1) k) 0 cols
+
+-- the dot (s, y) stands before the dot (r, x), by rows
+abbrev pub Before : ℕ → ℕ → ℕ → ℕ → Type 0
+Before s y r x = (s < r) ⊎ ((s ≡ r) × (y < x))

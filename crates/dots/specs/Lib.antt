@@ -1,14 +1,8 @@
 pub mod Bit
-pub mod BitLaws
 pub mod Table
-pub mod TableLaws
 pub mod Parts
 pub mod Landing
-pub mod LandingLaws
 pub mod ByRows
-pub mod Cells
-pub mod CellsLaws
 pub mod First
-pub mod FirstLaws
-pub mod TallyLaws
-pub mod OnesLaws
+pub mod engine
+pub mod laws

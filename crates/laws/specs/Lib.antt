@@ -1,5 +1,4 @@
-pub mod Lists
 pub mod Pick
-pub mod PickLaws
 pub mod Ring
-pub mod Turns
+pub mod engine
+pub mod laws

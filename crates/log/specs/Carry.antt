@@ -59,8 +59,3 @@ pub record Held (bytes : List ℕ) (len r : ℕ) : Type 0 where
   pub most : r ≤ room
   pub is : take r bytes ≡ take len bytes
   pub count : r ≡ length (take r bytes)
-
--- what the reach of a carry is: it fits a carry
-pub record Reach (s : List ℕ) (r : ℕ) : Type 0 where
-  pub is : r ≡ reach s
-  pub small : r ≤ room

@@ -116,22 +116,3 @@ toldSize s = pick (noLength s || outsideLength s) 0 (recordSize s)
 -- the bytes that the record at the front takes up, off the lengths alone: 0 where it is cut
 unfoldable pub wholeSize : List ℕ → ℕ
 wholeSize s = pick (cutAt s) 0 (recordSize s)
-
--- what reading a byte, and a number of two or eight bytes, answers: the number, and that it fits
-pub record Byte (x r : ℕ) : Type 0 where
-  pub is : r ≡ x
-  pub small : r < 256
-
-pub record Num16 (s : List ℕ) (at r : ℕ) : Type 0 where
-  pub is : r ≡ num16 s at
-  pub small : r < 2 ^ 16
-
-pub record Num64 (s : List ℕ) (at r : ℕ) : Type 0 where
-  pub is : r ≡ num64 s at
-  pub small : r < 2 ^ 64
-
--- what holds before a record's body is read: its size and kind are known, and all its bytes are there
-pub record Whole (s : List ℕ) (size kind : ℕ) : Type 0 where
-  pub fits : size ≤ length s
-  pub sized : recordSize s ≡ size
-  pub told : kindOf s ≡ kind

@@ -1,11 +1,7 @@
 pub mod Frame
-pub mod FrontLaws
-pub mod FrameLaws
-pub mod CutLaws
 pub mod Flaw
-pub mod FlawLaws
 pub mod Frames
-pub mod FrameCases
-pub mod FramesLaws
 pub mod Carry
-pub mod CarryLaws
+pub mod engine
+pub mod laws
+pub mod cases

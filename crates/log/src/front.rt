@@ -3,7 +3,8 @@ ghost use mathlib.Core.Path.{_≡_};
 ghost use Prim.Native.Nat.{_+_, _≤_};
 ghost use lib.ListN.{length};
 ghost use Rattle.log.specs.Flaw.{flawOf};
-ghost use Rattle.log.specs.Frame.{Byte, Num16, Num64, toldSize, wholeSize, wantsMore, frameOf, Whole};
+ghost use Rattle.log.specs.Frame.{toldSize, wholeSize, wantsMore, frameOf};
+ghost use Rattle.log.specs.engine.Reading.{Byte, Num16, Num64, Whole};
 use crate::flaw::Flaw;
 use crate::frame::Frame;
 

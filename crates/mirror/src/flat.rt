@@ -2,7 +2,7 @@
 // at every record (docs/DECISIONS.md, "Speed"); so the address has two fields, and what only an instruction changes is a
 // struct of seven bytes.
 ghost use mathlib.Core.Path.{_≡_};
-ghost use Rattle.mirror.specs.Flat.{patternedOf, placeOf, addressOf, modesOf, registersFrom};
+ghost use Rattle.mirror.specs.engine.Flat.{patternedOf, placeOf, addressOf, modesOf, registersFrom};
 use chip::address::Address;
 use chip::address::DisplayAddress;
 use chip::address::PatternAddress;

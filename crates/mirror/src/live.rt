@@ -4,7 +4,7 @@ ghost use Prim.Native.Nat.{_<_};
 ghost use lib.Dec.{leb, ltb};
 ghost use Rattle.laws.specs.Pick.{pick};
 ghost use Rattle.mirror.specs.Panel.{timeEnd};
-ghost use Rattle.mirror.specs.Live.{registersOf, halfOf, panelOf, Opens, Refuses, Passes, Misses, Waits, Offers, Tears, Does, Shows};
+ghost use Rattle.mirror.specs.engine.Live.{registersOf, halfOf, panelOf, Opens, Refuses, Passes, Misses, Waits, Offers, Tears, Does, Shows};
 use crate::answer::Answer;
 use crate::flat::Modes;
 use crate::flat::address;

@@ -1,6 +1,6 @@
 // The counts of one part of a log: they start at 0, where plain sums do, and are added to the counts so far at its end.
 ghost use mathlib.Core.Path.{_≡_};
-ghost use Rattle.mirror.specs.Part.{raisedBy, addedTo, bumped, Room};
+ghost use Rattle.mirror.specs.engine.Part.{raisedBy, addedTo, bumped, Room};
 use crate::answer::Answer;
 
 // One more of this answer.

@@ -1,5 +1,5 @@
 -- What a comparison answers (document 01, "The picture", "Answer numbers").
-use Prim.Native.Nat.{ℕ}
+use Prim.Native.Nat.{ℕ, _<_}
 use mathlib.Core.Path.{_≡_}
 use mathlib.Core.Bool.{Bool, not}
 use mathlib.Core.List.{List}
@@ -8,7 +8,7 @@ use lib.Dec.{eqb}
 use lib.ListN.{length}
 use Rattle.laws.specs.Pick.{pick}
 use Rattle.dots.specs.Landing.{dot}
-use Rattle.dots.specs.First.{firstDot}
+use Rattle.dots.specs.First.{firstDot, Before}
 use Rattle.picture.specs.Frame.{glass}
 use Rattle.picture.specs.Refusal.{numbered}
 use Rattle.picture.specs.declared.compare.Compared.{Compared}
@@ -50,3 +50,20 @@ comparedOf a b =
 pub record Compares (a b : List ℕ) (answer : Compared) : Type 0 where
   pub told : answer ≡ comparedOf a b
   pub paper : paper answer ≡ record { number = numberFor a b; place = placeFor (numberFor a b) a b }
+
+-- the first dot, by rows, at which the frames differ
+pub record FirstDifference (a b : List ℕ) (r x : ℕ) : Type 0 where
+  pub row-in : r < glass .rows
+  pub column-in : x < glass .cols
+  pub differs : dot glass a r x ≡ dot glass b r x → ⊥
+  pub none-before : (i y : ℕ) → y < glass .cols → Before i y r x → dot glass a i y ≡ dot glass b i y
+
+-- no dot differs
+abbrev pub SameDots : List ℕ → List ℕ → Type 0
+SameDots a b = (r x : ℕ) → r < glass .rows → x < glass .cols → dot glass a r x ≡ dot glass b r x
+
+-- what each answer to two frames of the right size means
+unfoldable pub Means : List ℕ → List ℕ → Compared → Type 0
+Means a b (At r x) = FirstDifference a b r x
+Means a b Same = SameDots a b
+Means a b Size = ⊥

@@ -1,14 +1,10 @@
 pub mod Pattern
 pub mod Cursor
-pub mod CursorLaws
 pub mod Frame
 pub mod Picture
 pub mod Refusal
-pub mod PictureLaws
-pub mod Shown
 pub mod Paint
 pub mod Compare
-pub mod ShownLaws
-pub mod PaintLaws
-pub mod CompareLaws
-pub mod PictureCases
+pub mod engine
+pub mod laws
+pub mod cases

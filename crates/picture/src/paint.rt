@@ -5,7 +5,7 @@ ghost use lib.ListN.{length};
 ghost use Rattle.picture.specs.Pattern.{tall, wide, fontSize, patternsOf};
 ghost use Rattle.picture.specs.Frame.{across, glass};
 ghost use Rattle.dots.specs.Table.{sum};
-ghost use Rattle.picture.specs.Shown.{PutsCell, PutsLine, PutsRow, rowDot, shapeFrom, shownOf};
+ghost use Rattle.picture.specs.engine.Shown.{PutsCell, PutsLine, PutsRow, rowDot, shapeFrom, shownOf};
 ghost use Rattle.picture.specs.Paint.{Paints, refusalOf};
 use crate::cursor::position;
 use crate::frame::FRAME_SIZE;

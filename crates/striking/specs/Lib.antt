@@ -1,9 +1,5 @@
 pub mod Machine
-pub mod MachineLaws
 pub mod Striking
 pub mod Laws
-pub mod StrikingLaws
-pub mod Instances
-pub mod Toy
-pub mod ToyLaws
-pub mod Naive
+pub mod laws
+pub mod cases

@@ -1,7 +1,7 @@
 // A panel file: 84 bytes, as docs/TRACE.md lays them out.
 ghost use Prim.Native.Nat.{_<_};
 ghost use mathlib.Core.Path.{_≡_};
-ghost use Rattle.log.specs.Frame.{Byte, Num16, Num64};
+ghost use Rattle.log.specs.engine.Reading.{Byte, Num16, Num64};
 ghost use Rattle.trace.specs.PanelFile.{addressIn, bitsFit, displayIn, fitsIn, halfFits, halfIn, panelIn, patternIn, registersIn};
 use chip::address::Address;
 use chip::address::DISPLAY_SIZE;

@@ -7,7 +7,7 @@ use borrow.Author.Tests.{lt-ltb, le-ltb}
 use lib.ListN.{length, drop}
 use Rattle.chip.specs.Address.{patternSize}
 use Rattle.chip.specs.Sound.{patternFits}
-use Rattle.chip.specs.SoundLaws.{fits-here, fits-end}
+use Rattle.chip.specs.laws.SoundLaws.{fits-here, fits-end}
 use Rattle.chip.proofs.sheet.pattern_fits.Statement.{statement}
 use Rattle.chip.proofs.sheet.pattern_fits.Tie as tie
 

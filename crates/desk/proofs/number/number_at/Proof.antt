@@ -1,5 +1,5 @@
 use borrow.Author.Needs.{needs}
-use Rattle.desk.specs.NumberLaws.{bounded}
+use Rattle.desk.specs.laws.NumberLaws.{bounded}
 use Rattle.desk.proofs.number.number_at.Statement.{statement}
 use Rattle.desk.proofs.number.number_at.Tie as tie
 

@@ -1,7 +1,7 @@
 use Prim.Native.Nat.{_-_}
 use native.Mathlib.Omega.{arith}
 use lib.ListN.{length}
-use Rattle.desk.specs.NumberLaws.{Reached, wordless, begun, onward, stopped, ended}
+use Rattle.desk.specs.laws.NumberLaws.{Reached, wordless, begun, onward, stopped, ended}
 use denote.Ref.{now}
 use borrow.Author.Tests.{not-true, not-false}
 use borrow.Author.Needs.{needs}

@@ -2,7 +2,7 @@ use mathlib.Core.Path.{refl, sym, _∙_}
 use native.Mathlib.Omega.{arith}
 use lib.Seq.{take-all}
 use borrow.Author.Needs.{needs}
-use Rattle.log.specs.CarryLaws.{held}
+use Rattle.log.specs.laws.CarryLaws.{held}
 use Rattle.log.proofs.carry.carried.Statement.{statement}
 use Rattle.log.proofs.carry.carried.Tie as tie
 

@@ -1,7 +1,7 @@
 use mathlib.Core.Path.{sym, _∙_}
 use native.Mathlib.Omega.{arith}
-use Rattle.log.specs.FrontLaws.{cut-size, front}
-use Rattle.log.specs.FrameLaws.{kind-bad, transfer-length-bad, reset-length-bad, cut-frame, bad-frame}
+use Rattle.log.specs.laws.FrontLaws.{cut-size, front}
+use Rattle.log.specs.laws.FrameLaws.{kind-bad, transfer-length-bad, reset-length-bad, cut-frame, bad-frame}
 use borrow.Author.Needs.{needs}
 use Rattle.log.proofs.front.any.Statement.{statement}
 use Rattle.log.proofs.front.any.Tie as tie

@@ -1,8 +1,8 @@
 use mathlib.Core.Path.{sym, ap, _∙_}
 use native.Mathlib.Omega.{arith}
 use borrow.Author.Needs.{needs}
-use Rattle.log.specs.FrontLaws.{cut-size, front}
-use Rattle.log.specs.FlawLaws.{cut-flaw, kind-flaw, transfer-length-flaw, reset-length-flaw, transfer-time-flaw, reset-time-flaw, control-flaw, transfer-no-flaw, reset-no-flaw}
+use Rattle.log.specs.laws.FrontLaws.{cut-size, front}
+use Rattle.log.specs.laws.FlawLaws.{cut-flaw, kind-flaw, transfer-length-flaw, reset-length-flaw, transfer-time-flaw, reset-time-flaw, control-flaw, transfer-no-flaw, reset-no-flaw}
 use Rattle.log.specs.declared.flaw.Flaw.the-variants.{Kind, Length}
 use Rattle.log.proofs.front.flaw.Statement.{statement}
 use Rattle.log.proofs.front.flaw.Tie as tie

@@ -1,7 +1,7 @@
 use mathlib.Core.Path.{sym}
 use native.Mathlib.Omega.{arith}
-use Rattle.log.specs.FrontLaws.{whole-front}
-use Rattle.log.specs.FrameLaws.{time-bad, reset-good, bad-frame, reset-frame}
+use Rattle.log.specs.laws.FrontLaws.{whole-front}
+use Rattle.log.specs.laws.FrameLaws.{time-bad, reset-good, bad-frame, reset-frame}
 use borrow.Author.Needs.{needs}
 use Rattle.log.proofs.front.reset.Statement.{statement}
 use Rattle.log.proofs.front.reset.Tie as tie

@@ -1,6 +1,6 @@
 use mathlib.Core.Path.{sym}
 use native.Mathlib.Omega.{arith}
-use Rattle.log.specs.FrontLaws.{told-none, told-low, told-high, told-size}
+use Rattle.log.specs.laws.FrontLaws.{told-none, told-low, told-high, told-size}
 use borrow.Author.Needs.{needs}
 use Rattle.log.proofs.front.told.Statement.{statement}
 use Rattle.log.proofs.front.told.Tie as tie

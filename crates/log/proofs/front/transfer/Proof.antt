@@ -1,7 +1,7 @@
 use mathlib.Core.Path.{sym}
 use native.Mathlib.Omega.{arith}
-use Rattle.log.specs.FrontLaws.{whole-front}
-use Rattle.log.specs.FrameLaws.{time-bad, control-bad, transfer-good, bad-frame, transfer-frame}
+use Rattle.log.specs.laws.FrontLaws.{whole-front}
+use Rattle.log.specs.laws.FrameLaws.{time-bad, control-bad, transfer-good, bad-frame, transfer-frame}
 use borrow.Author.Needs.{needs}
 use Rattle.log.proofs.front.transfer.Statement.{statement}
 use Rattle.log.proofs.front.transfer.Tie as tie

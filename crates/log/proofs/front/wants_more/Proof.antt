@@ -1,5 +1,5 @@
 use borrow.Author.Tests.{lt-ltb}
-use Rattle.log.specs.CutLaws.{wants-told}
+use Rattle.log.specs.laws.CutLaws.{wants-told}
 use borrow.Author.Needs.{needs}
 use Rattle.log.proofs.front.wants_more.Statement.{statement}
 use Rattle.log.proofs.front.wants_more.Tie as tie

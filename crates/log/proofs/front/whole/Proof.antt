@@ -1,5 +1,5 @@
 use borrow.Author.Tests.{lt-ltb, le-ltb}
-use Rattle.log.specs.FrontLaws.{whole-told}
+use Rattle.log.specs.laws.FrontLaws.{whole-told}
 use borrow.Author.Needs.{needs}
 use Rattle.log.proofs.front.whole.Statement.{statement}
 use Rattle.log.proofs.front.whole.Tie as tie

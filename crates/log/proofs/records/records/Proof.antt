@@ -7,8 +7,8 @@ use lib.ListN.{length, drop, length-drop}
 use lib.Seq.{drop-drop, take-all}
 use Rattle.log.specs.Frame.{wholeSize}
 use Rattle.log.specs.Frames.{Pieces, recordsOf}
-use Rattle.log.specs.FrontLaws.{Front, front, cut-size, whole-fits}
-use Rattle.log.specs.FramesLaws.{frames-cut, front-next}
+use Rattle.log.specs.laws.FrontLaws.{Front, front, cut-size, whole-fits}
+use Rattle.log.specs.laws.FramesLaws.{frames-cut, front-next}
 use Rattle.log.proofs.records.records.Statement.{statement}
 use Rattle.log.proofs.records.records.Tie as tie
 

@@ -4,8 +4,8 @@ use mathlib.Core.Path.{_≡_, sym, ap, _∙_}
 use native.Mathlib.Omega.{arith}
 use borrow.Author.Needs.{needs}
 use lib.ListN.{length}
-use Rattle.mirror.specs.Part.{addedTo, upTo}
-use Rattle.mirror.specs.PartLaws.{added-none, added-one, up-all}
+use Rattle.mirror.specs.engine.Part.{addedTo, upTo}
+use Rattle.mirror.specs.laws.PartLaws.{added-none, added-one, up-all}
 use Rattle.mirror.proofs.part.added.Statement.{statement}
 use Rattle.mirror.proofs.part.added.Tie as tie
 

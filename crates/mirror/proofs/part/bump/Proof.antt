@@ -1,5 +1,5 @@
 use native.Mathlib.Omega.{arith}
-use Rattle.mirror.specs.Part.{bumped}
+use Rattle.mirror.specs.engine.Part.{bumped}
 use borrow.Author.Tests.{le-ltb, lt-ltb}
 use borrow.Author.Needs.{needs}
 use Rattle.mirror.proofs.part.bump.Statement.{statement}

@@ -1,6 +1,6 @@
 use mathlib.Core.Path.{sym}
 use native.Mathlib.Omega.{arith}
-use Rattle.mirror.specs.PartLaws.{raised-sum, raised-most}
+use Rattle.mirror.specs.laws.PartLaws.{raised-sum, raised-most}
 use borrow.Author.Needs.{needs}
 use Rattle.mirror.proofs.part.plus.Statement.{statement}
 use Rattle.mirror.proofs.part.plus.Tie as tie

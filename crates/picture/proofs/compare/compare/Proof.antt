@@ -8,10 +8,10 @@ use borrow.Author.Needs.{needs}
 use borrow.Author.Tests.{eq-eqb, ne-eqb}
 use lib.ListN.{length}
 use Rattle.dots.specs.First.{first, firstDot}
-use Rattle.dots.specs.FirstLaws.{first-here, first-next, first-end, rows-next, rows-end}
+use Rattle.dots.specs.laws.FirstLaws.{first-here, first-next, first-end, rows-next, rows-end}
 use Rattle.picture.specs.Frame.{glass}
 use Rattle.picture.specs.Compare.{differ, comparedOf}
-use Rattle.picture.specs.CompareLaws.{compares}
+use Rattle.picture.specs.laws.CompareLaws.{compares}
 use Rattle.picture.specs.declared.compare.Compared.{Compared}
 use Rattle.picture.specs.declared.compare.Compared.the-variants.{At, Same}
 use Rattle.picture.proofs.compare.compare.Statement.{statement}

@@ -3,7 +3,7 @@ use borrow.Author.Needs.{needs}
 use Prim.Native.Nat.{_-_}
 use mathlib.Core.Path.{refl, sym, _∙_}
 use native.Mathlib.Omega.{arith}
-use Rattle.dots.specs.TableLaws.{Filled, fill-start, fill-step, fill-end, table-const}
+use Rattle.dots.specs.laws.TableLaws.{Filled, fill-start, fill-step, fill-end, table-const}
 use Rattle.picture.specs.Frame.{glass}
 use Rattle.picture.proofs.frame.clear.Statement.{statement}
 use Rattle.picture.proofs.frame.clear.Tie as tie

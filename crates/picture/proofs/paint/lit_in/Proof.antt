@@ -3,7 +3,7 @@ use mathlib.Core.Path.{_≡_, sym, ap, _∙_}
 use native.Mathlib.Omega.{arith}
 use lib.Bits.{bitAnd, and-mask}
 use lib.Count.{ones, ones-le}
-use Rattle.dots.specs.OnesLaws.{ones-low}
+use Rattle.dots.specs.laws.OnesLaws.{ones-low}
 use Rattle.picture.specs.Pattern.{wide}
 use Rattle.picture.proofs.paint.lit_in.Statement.{statement}
 use Rattle.picture.proofs.paint.lit_in.Tie as tie

@@ -3,7 +3,7 @@ use mathlib.Core.Path.{sym, ap, _∙_}
 use mathlib.Core.Bool.{not}
 use borrow.Author.Needs.{needs}
 use denote.Ref.{now}
-use Rattle.picture.specs.PaintLaws.{paints-unsound, paints-font, paints-size, paints-line}
+use Rattle.picture.specs.laws.PaintLaws.{paints-unsound, paints-font, paints-size, paints-line}
 use Rattle.picture.proofs.paint.paint.Statement.{statement}
 use Rattle.picture.proofs.paint.paint.Tie as tie
 

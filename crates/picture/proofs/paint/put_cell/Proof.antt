@@ -5,12 +5,12 @@ use mathlib.Core.List.{List}
 use native.Mathlib.Omega.{arith}
 use borrow.Author.Needs.{needs}
 use Rattle.dots.specs.Table.{sum}
-use Rattle.dots.specs.Cells.{strip}
-use Rattle.dots.specs.TallyLaws.{Through, through-start, through-next, through-end, through-long, through-few, length-strip}
+use Rattle.dots.specs.engine.Cells.{strip}
+use Rattle.dots.specs.laws.TallyLaws.{Through, through-start, through-next, through-end, through-long, through-few, length-strip}
 use Rattle.picture.specs.Pattern.{tall, wide}
 use Rattle.picture.specs.Frame.{glass}
-use Rattle.picture.specs.Shown.{cellDot}
-use Rattle.picture.specs.ShownLaws.{few-row}
+use Rattle.picture.specs.engine.Shown.{cellDot}
+use Rattle.picture.specs.laws.ShownLaws.{few-row}
 use Rattle.picture.proofs.paint.put_cell.Statement.{statement}
 use Rattle.picture.proofs.paint.put_cell.Tie as tie
 

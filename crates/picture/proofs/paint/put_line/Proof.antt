@@ -6,13 +6,13 @@ use mathlib.Core.List.{List}
 use native.Mathlib.Omega.{arith}
 use borrow.Author.Needs.{needs}
 use denote.Ref.{now}
-use Rattle.dots.specs.Cells.{block, blockSum}
-use Rattle.dots.specs.TallyLaws.{Through, through-start, through-next, through-end, through-long, through-few, length-block}
+use Rattle.dots.specs.engine.Cells.{block, blockSum}
+use Rattle.dots.specs.laws.TallyLaws.{Through, through-start, through-next, through-end, through-long, through-few, length-block}
 use Rattle.chip.specs.declared.sheet.Sheet.{Sheet}
 use Rattle.picture.specs.Pattern.{tall, wide, patternsOf}
 use Rattle.picture.specs.Frame.{across, glass}
-use Rattle.picture.specs.Shown.{PutsCell, shownOf, lineDot}
-use Rattle.picture.specs.ShownLaws.{few-cell}
+use Rattle.picture.specs.engine.Shown.{PutsCell, shownOf, lineDot}
+use Rattle.picture.specs.laws.ShownLaws.{few-cell}
 use Rattle.picture.proofs.paint.put_line.Statement.{statement}
 use Rattle.picture.proofs.paint.put_line.Tie as tie
 

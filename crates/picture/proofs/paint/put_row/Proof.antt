@@ -9,11 +9,11 @@ use lib.ListN.{length}
 use lib.Bits.{bitAnd, and-mask}
 use Rattle.dots.specs.Landing.{put}
 use Rattle.dots.specs.Table.{inOrder}
-use Rattle.dots.specs.TableLaws.{in-order-none, in-order-more}
-use Rattle.dots.specs.TallyLaws.{length-strip}
+use Rattle.dots.specs.laws.TableLaws.{in-order-none, in-order-more}
+use Rattle.dots.specs.laws.TallyLaws.{length-strip}
 use Rattle.picture.specs.Pattern.{wide, tall}
 use Rattle.picture.specs.Frame.{glass}
-use Rattle.picture.specs.Shown.{rowDot}
+use Rattle.picture.specs.engine.Shown.{rowDot}
 use Rattle.picture.proofs.paint.put_row.Statement.{statement}
 use Rattle.picture.proofs.paint.put_row.Tie as tie
 

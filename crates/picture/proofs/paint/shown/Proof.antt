@@ -6,8 +6,8 @@ use borrow.Author.Needs.{needs}
 use denote.Ref.{now}
 use lib.ListN.{set}
 use Rattle.picture.specs.Picture.{cursorRow, shapeAt}
-use Rattle.picture.specs.Shown.{full}
-use Rattle.picture.specs.ShownLaws.{shape-from, shown-off, shown-away, shown-blink, shown-under, shown-bare}
+use Rattle.picture.specs.engine.Shown.{full}
+use Rattle.picture.specs.laws.ShownLaws.{shape-from, shown-off, shown-away, shown-blink, shown-under, shown-bare}
 use Rattle.picture.proofs.paint.shown.Statement.{statement}
 use Rattle.picture.proofs.paint.shown.Tie as tie
 

@@ -4,7 +4,7 @@ use Prim.Native.Nat.{_-_}
 use mathlib.Core.Path.{refl}
 use native.Mathlib.Omega.{arith}
 use lib.Bits.{and-mask}
-use Rattle.dots.specs.TableLaws.{Filled, fill-start, fill-step, fill-end}
+use Rattle.dots.specs.laws.TableLaws.{Filled, fill-start, fill-step, fill-end}
 use Rattle.picture.specs.Pattern.{tall, glyphRow}
 use Rattle.picture.proofs.pattern.glyph.Statement.{statement}
 use Rattle.picture.proofs.pattern.glyph.Tie as tie

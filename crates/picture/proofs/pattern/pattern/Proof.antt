@@ -3,7 +3,7 @@ use borrow.Author.Needs.{needs}
 use Prim.Native.Nat.{_-_}
 use mathlib.Core.Path.{refl}
 use native.Mathlib.Omega.{arith}
-use Rattle.dots.specs.TableLaws.{Filled, fill-start, fill-step, fill-end}
+use Rattle.dots.specs.laws.TableLaws.{Filled, fill-start, fill-step, fill-end}
 use Rattle.picture.specs.Pattern.{tall, patternRow}
 use Rattle.picture.proofs.pattern.pattern.Statement.{statement}
 use Rattle.picture.proofs.pattern.pattern.Tie as tie

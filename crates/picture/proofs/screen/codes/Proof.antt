@@ -3,7 +3,7 @@ use borrow.Author.Needs.{needs}
 use Prim.Native.Nat.{_-_}
 use mathlib.Core.Path.{refl}
 use native.Mathlib.Omega.{arith}
-use Rattle.dots.specs.TableLaws.{Filled, fill-start, fill-step, fill-end}
+use Rattle.dots.specs.laws.TableLaws.{Filled, fill-start, fill-step, fill-end}
 use Rattle.chip.specs.Address.{displaySize}
 use Rattle.picture.specs.Picture.{codeAt}
 use Rattle.picture.proofs.screen.codes.Statement.{statement}

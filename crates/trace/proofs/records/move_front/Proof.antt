@@ -3,7 +3,7 @@ use Prim.Native.Nat.{_-_}
 use mathlib.Core.Path.{refl}
 use native.Mathlib.Omega.{arith}
 use denote.Ref.{now}
-use Rattle.trace.specs.RecordsLaws.{Moving, move-start, move-step, move-end}
+use Rattle.trace.specs.laws.RecordsLaws.{Moving, move-start, move-step, move-end}
 use borrow.Author.Needs.{needs}
 use Rattle.trace.proofs.records.move_front.Statement.{statement}
 use Rattle.trace.proofs.records.move_front.Tie as tie

@@ -3,7 +3,7 @@ use native.Mathlib.Omega.{arith}
 use lib.ListN.{length}
 use denote.Ref.{now}
 use borrow.Author.Needs.{needs}
-use Rattle.trace.specs.RecordsLaws.{used-reaches}
+use Rattle.trace.specs.laws.RecordsLaws.{used-reaches}
 use Rattle.trace.proofs.records.record_block.Statement.{statement}
 use Rattle.trace.proofs.records.record_block.Tie as tie
 

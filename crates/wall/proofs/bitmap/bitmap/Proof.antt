@@ -2,7 +2,7 @@
 use Prim.Native.Nat.{_-_, _*_, _/_, _%_}
 use mathlib.Core.Path.{refl}
 use native.Mathlib.Omega.{arith}
-use Rattle.dots.specs.TableLaws.{Filled, fill-start, fill-step, fill-end}
+use Rattle.dots.specs.laws.TableLaws.{Filled, fill-start, fill-step, fill-end}
 use Rattle.wall.specs.Draw.{eightOf}
 use borrow.Author.Needs.{needs}
 use Rattle.wall.proofs.bitmap.bitmap.Statement.{statement}

@@ -3,7 +3,7 @@ use Prim.Native.Nat.{_-_}
 use mathlib.Core.Path.{refl}
 use native.Mathlib.Omega.{arith}
 use lib.ListN.{getD}
-use Rattle.dots.specs.TableLaws.{Filled, fill-start, fill-step, fill-end}
+use Rattle.dots.specs.laws.TableLaws.{Filled, fill-start, fill-step, fill-end}
 use Rattle.chip.specs.Address.{displaySize}
 use Rattle.wall.specs.Text.{characterOf}
 use borrow.Author.Needs.{needs}

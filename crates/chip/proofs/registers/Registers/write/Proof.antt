@@ -1,6 +1,6 @@
 use mathlib.Core.Path.{ap, _∙_}
 use Rattle.chip.specs.Step.{followed}
-use Rattle.chip.specs.StepLaws.{written-as}
+use Rattle.chip.specs.laws.StepLaws.{written-as}
 use borrow.Author.Needs.{needs}
 use Rattle.chip.proofs.registers.Registers.write.Statement.{statement}
 use Rattle.chip.proofs.registers.Registers.write.Tie as tie

@@ -3,7 +3,7 @@ use mathlib.Core.Path.{ap, _∙_}
 use mathlib.Core.List.{_++_}
 use Rattle.log.specs.declared.carry.Filled.{Filled}
 use Rattle.log.specs.Carry.{carriedOf, reach, upTo, toppedOf}
-use Rattle.log.specs.CarryLaws.{carried, reach-start}
+use Rattle.log.specs.laws.CarryLaws.{carried, reach-start}
 use borrow.Author.Needs.{needs}
 use Rattle.log.proofs.carry.Carry.fill.Statement.{statement}
 use Rattle.log.proofs.carry.Carry.fill.Tie as tie

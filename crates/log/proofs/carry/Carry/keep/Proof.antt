@@ -1,4 +1,4 @@
-use Rattle.log.specs.CarryLaws.{keep-carry}
+use Rattle.log.specs.laws.CarryLaws.{keep-carry}
 use borrow.Author.Needs.{needs}
 use Rattle.log.proofs.carry.Carry.keep.Statement.{statement}
 use Rattle.log.proofs.carry.Carry.keep.Tie as tie

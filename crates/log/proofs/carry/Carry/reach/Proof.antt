@@ -1,6 +1,6 @@
 use mathlib.Core.Path.{sym, ap, _∙_}
 use Rattle.log.specs.Frame.{toldSize}
-use Rattle.log.specs.CarryLaws.{reach-first, reach-size}
+use Rattle.log.specs.laws.CarryLaws.{reach-first, reach-size}
 use borrow.Author.Needs.{needs}
 use Rattle.log.proofs.carry.Carry.reach.Statement.{statement}
 use Rattle.log.proofs.carry.Carry.reach.Tie as tie

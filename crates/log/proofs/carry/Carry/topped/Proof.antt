@@ -5,7 +5,7 @@ use lib.ListN.{length, take}
 use lib.Seq.{take-all, paste}
 use Rattle.log.specs.declared.carry.Carry.{Carry}
 use Rattle.log.specs.Carry.{carriedOf, carryOf}
-use Rattle.log.specs.CarryLaws.{topped-carry}
+use Rattle.log.specs.laws.CarryLaws.{topped-carry}
 use borrow.Author.Needs.{needs}
 use Rattle.log.proofs.carry.Carry.topped.Statement.{statement}
 use Rattle.log.proofs.carry.Carry.topped.Tie as tie

@@ -1,7 +1,7 @@
 use mathlib.Core.Path.{sym, ap, _∙_}
 use lib.ListN.{take}
 use Rattle.log.specs.Carry.{room, carriedOf, carryOf}
-use Rattle.log.specs.CarryLaws.{keep-wanting, drop-broken}
+use Rattle.log.specs.laws.CarryLaws.{keep-wanting, drop-broken}
 use borrow.Author.Needs.{needs}
 use Rattle.log.proofs.carry.Carry.wanting.Statement.{statement}
 use Rattle.log.proofs.carry.Carry.wanting.Tie as tie

@@ -1,7 +1,7 @@
 use mathlib.Core.Path.{sym}
 use lib.Dec.{eqb}
 use borrow.Author.Tests.{lt-ltb, le-ltb}
-use Rattle.mirror.specs.ActsLaws.{few-ends}
+use Rattle.mirror.specs.laws.ActsLaws.{few-ends}
 use borrow.Author.Needs.{needs}
 use Rattle.mirror.proofs.live.Live.completes.Statement.{statement}
 use Rattle.mirror.proofs.live.Live.completes.Tie as tie

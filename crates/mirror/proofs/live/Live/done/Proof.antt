@@ -1,4 +1,4 @@
-use Rattle.mirror.specs.LiveLaws.{carried}
+use Rattle.mirror.specs.laws.LiveLaws.{carried}
 use borrow.Author.Needs.{needs}
 use Rattle.mirror.proofs.live.Live.done.Statement.{statement}
 use Rattle.mirror.proofs.live.Live.done.Tie as tie

@@ -2,8 +2,8 @@ use denote.Ref.{now}
 use mathlib.Core.Path.{refl, _∙_}
 use borrow.Author.Tests.{eq-eqb, ne-eqb}
 use Rattle.chip.specs.Step.{obeyed, written}
-use Rattle.mirror.specs.Live.{panelOf}
-use Rattle.mirror.specs.RecordLaws.{done-as, stepped-as, span-as}
+use Rattle.mirror.specs.engine.Live.{panelOf}
+use Rattle.mirror.specs.laws.RecordLaws.{done-as, stepped-as, span-as}
 use borrow.Author.Needs.{needs}
 use Rattle.mirror.proofs.live.Live.finish.Statement.{statement}
 use Rattle.mirror.proofs.live.Live.finish.Tie as tie

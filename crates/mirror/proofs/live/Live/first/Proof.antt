@@ -2,9 +2,9 @@ use denote.Ref.{now}
 use mathlib.Core.Path.{_∙_}
 use mathlib.Core.List.{[]}
 use lib.Dec.{leb}
-use Rattle.mirror.specs.Way.{Way, firstOf}
-use Rattle.mirror.specs.Live.{panelOf}
-use Rattle.mirror.specs.RecordLaws.{went-as, held-as, read-as}
+use Rattle.mirror.specs.engine.Way.{Way, firstOf}
+use Rattle.mirror.specs.engine.Live.{panelOf}
+use Rattle.mirror.specs.laws.RecordLaws.{went-as, held-as, read-as}
 use borrow.Author.Needs.{needs}
 use Rattle.mirror.proofs.live.Live.first.Statement.{statement}
 use Rattle.mirror.proofs.live.Live.first.Tie as tie

@@ -1,5 +1,5 @@
 use Rattle.mirror.specs.declared.half.Half.the-variants.{Empty, Ignored, Waiting}
-use Rattle.mirror.specs.LiveLaws.{opened}
+use Rattle.mirror.specs.laws.LiveLaws.{opened}
 use borrow.Author.Needs.{needs}
 use Rattle.mirror.proofs.live.Live.of.Statement.{statement}
 use Rattle.mirror.proofs.live.Live.of.Tie as tie

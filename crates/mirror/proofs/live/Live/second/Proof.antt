@@ -1,8 +1,8 @@
 use mathlib.Core.Path.{refl, _∙_}
 use borrow.Author.Tests.{lt-ltb, le-ltb}
 use Rattle.chip.specs.Step.{passed}
-use Rattle.mirror.specs.Live.{panelOf}
-use Rattle.mirror.specs.RecordLaws.{done-as, stepped-as}
+use Rattle.mirror.specs.engine.Live.{panelOf}
+use Rattle.mirror.specs.laws.RecordLaws.{done-as, stepped-as}
 use borrow.Author.Needs.{needs}
 use Rattle.mirror.proofs.live.Live.second.Statement.{statement}
 use Rattle.mirror.proofs.live.Live.second.Tie as tie

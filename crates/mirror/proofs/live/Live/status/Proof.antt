@@ -1,8 +1,8 @@
 use mathlib.Core.Path.{ap, _∙_}
 use native.Mathlib.Omega.{arith}
 use Rattle.chip.specs.Address.{numberOf}
-use Rattle.chip.specs.StepLaws.{number-small}
-use Rattle.mirror.specs.Flat.{addressOf}
+use Rattle.chip.specs.laws.StepLaws.{number-small}
+use Rattle.mirror.specs.engine.Flat.{addressOf}
 use borrow.Author.Needs.{needs}
 use Rattle.mirror.proofs.live.Live.status.Statement.{statement}
 use Rattle.mirror.proofs.live.Live.status.Tie as tie

@@ -2,8 +2,8 @@ use denote.Ref.{now}
 use mathlib.Core.Path.{refl, sym, ap, _∙_}
 use borrow.Author.Tests.{ne-eqb}
 use Rattle.mirror.specs.Words.{joinedOf}
-use Rattle.mirror.specs.Live.{halfFrom, halfOf, panelOf}
-use Rattle.mirror.specs.ActsLaws.{finished, rested, begun, ended}
+use Rattle.mirror.specs.engine.Live.{halfFrom, halfOf, panelOf}
+use Rattle.mirror.specs.laws.ActsLaws.{finished, rested, begun, ended}
 use borrow.Author.Needs.{needs}
 use Rattle.mirror.proofs.live.Live.transfer.Statement.{statement}
 use Rattle.mirror.proofs.live.Live.transfer.Tie as tie

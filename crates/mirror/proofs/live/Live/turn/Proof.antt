@@ -1,8 +1,8 @@
 use denote.Ref.{now}
-use Rattle.mirror.specs.Live.{panelOf}
+use Rattle.mirror.specs.engine.Live.{panelOf}
 use mathlib.Core.Path.{refl, sym, _∙_}
-use Rattle.log.specs.FrameLaws.{transfer-time, reset-time}
-use Rattle.mirror.specs.RecordLaws.{done-as}
+use Rattle.log.specs.laws.FrameLaws.{transfer-time, reset-time}
+use Rattle.mirror.specs.laws.RecordLaws.{done-as}
 use borrow.Author.Needs.{needs}
 use Rattle.mirror.proofs.live.Live.turn.Statement.{statement}
 use Rattle.mirror.proofs.live.Live.turn.Tie as tie

@@ -2,8 +2,8 @@ use denote.Ref.{now}
 use mathlib.Core.Path.{_∙_}
 use mathlib.Core.List.{[]}
 use Rattle.chip.specs.Step.{passed}
-use Rattle.mirror.specs.Live.{panelOf}
-use Rattle.mirror.specs.RecordLaws.{shown-as, done-as, stepped-as, read-as}
+use Rattle.mirror.specs.engine.Live.{panelOf}
+use Rattle.mirror.specs.laws.RecordLaws.{shown-as, done-as, stepped-as, read-as}
 use borrow.Author.Needs.{needs}
 use Rattle.mirror.proofs.live.Live.whole.Statement.{statement}
 use Rattle.mirror.proofs.live.Live.whole.Tie as tie

@@ -1,7 +1,7 @@
 use mathlib.Core.Path.{sym, _∙_}
 use borrow.Author.Tests.{not-true, not-false}
-use Rattle.mirror.specs.TableLaws.{answered-sound, refused-unsound}
-use Rattle.mirror.specs.TableLaws.{records}
+use Rattle.mirror.specs.laws.TableLaws.{answered-sound, refused-unsound}
+use Rattle.mirror.specs.laws.TableLaws.{records}
 use borrow.Author.Needs.{needs}
 use Rattle.mirror.proofs.panel.Panel.record.Statement.{statement}
 use Rattle.mirror.proofs.panel.Panel.record.Tie as tie

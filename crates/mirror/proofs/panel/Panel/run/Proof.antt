@@ -1,5 +1,5 @@
-use Rattle.mirror.specs.StreamLaws.{feed-run}
-use Rattle.mirror.specs.NextLaws.{runs}
+use Rattle.mirror.specs.laws.StreamLaws.{feed-run}
+use Rattle.mirror.specs.laws.NextLaws.{runs}
 use borrow.Author.Needs.{needs}
 use Rattle.mirror.proofs.panel.Panel.run.Statement.{statement}
 use Rattle.mirror.proofs.panel.Panel.run.Tie as tie

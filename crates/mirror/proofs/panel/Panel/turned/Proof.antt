@@ -1,7 +1,7 @@
 use denote.Ref.{now}
 use mathlib.Core.Path.{ap, _∙_}
 use Rattle.log.specs.Frame.{frameOf}
-use Rattle.mirror.specs.Record.{answered}
+use Rattle.mirror.specs.engine.Record.{answered}
 use borrow.Author.Needs.{needs}
 use Rattle.mirror.proofs.panel.Panel.turned.Statement.{statement}
 use Rattle.mirror.proofs.panel.Panel.turned.Tie as tie

@@ -2,10 +2,10 @@ use Prim.Native.Nat.{_+_}
 use mathlib.Core.Path.{ap, sym, _∙_}
 use native.Mathlib.Omega.{arith}
 use denote.Ref.{now}
-use Rattle.laws.specs.Lists.{all-left}
+use Rattle.laws.specs.laws.Lists.{all-left}
 use Rattle.mirror.specs.Run.{consumedOf}
 use Rattle.mirror.specs.Stream.{restedOf}
-use Rattle.mirror.specs.StreamLaws.{feed-over, has-fed, feed-stops, feed-goes}
+use Rattle.mirror.specs.laws.StreamLaws.{feed-over, has-fed, feed-stops, feed-goes}
 use borrow.Author.Needs.{needs}
 use Rattle.mirror.proofs.stream.Stream.feed.Statement.{statement}
 use Rattle.mirror.proofs.stream.Stream.feed.Tie as tie

@@ -1,5 +1,5 @@
 use denote.Ref.{now}
-use Rattle.mirror.specs.StreamLaws.{front-read}
+use Rattle.mirror.specs.laws.StreamLaws.{front-read}
 use borrow.Author.Needs.{needs}
 use Rattle.mirror.proofs.stream.Stream.front.Statement.{statement}
 use Rattle.mirror.proofs.stream.Stream.front.Tie as tie

@@ -1,7 +1,7 @@
 use mathlib.Core.Path.{refl}
 use denote.Ref.{now}
-use Rattle.mirror.specs.StreamLaws.{has-fed}
-use Rattle.mirror.specs.NextLaws.{next-refused, stopped-over, next-stops, next-goes, replies}
+use Rattle.mirror.specs.laws.StreamLaws.{has-fed}
+use Rattle.mirror.specs.laws.NextLaws.{next-refused, stopped-over, next-stops, next-goes, replies}
 use borrow.Author.Needs.{needs}
 use Rattle.mirror.proofs.stream.Stream.next.Statement.{statement}
 use Rattle.mirror.proofs.stream.Stream.next.Tie as tie

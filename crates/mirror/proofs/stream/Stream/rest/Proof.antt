@@ -3,8 +3,8 @@ use mathlib.Core.Path.{sym, _∙_}
 use native.Mathlib.Omega.{arith}
 use lib.Seq.{take-all}
 use Rattle.log.specs.Carry.{room}
-use Rattle.log.specs.CutLaws.{wants-few}
-use Rattle.mirror.specs.StreamLaws.{rested-wants, rested-ends}
+use Rattle.log.specs.laws.CutLaws.{wants-few}
+use Rattle.mirror.specs.laws.StreamLaws.{rested-wants, rested-ends}
 use borrow.Author.Needs.{needs}
 use Rattle.mirror.proofs.stream.Stream.rest.Statement.{statement}
 use Rattle.mirror.proofs.stream.Stream.rest.Tie as tie

@@ -6,12 +6,12 @@ use native.Mathlib.Omega.{arith}
 use borrow.Author.Needs.{needs}
 use denote.Ref.{now}
 use lib.ListN.{length, take, drop}
-use Rattle.laws.specs.Lists.{all-left}
+use Rattle.laws.specs.laws.Lists.{all-left}
 use Rattle.log.specs.Frame.{frameOf}
-use Rattle.mirror.specs.Record.{answered}
+use Rattle.mirror.specs.engine.Record.{answered}
 use Rattle.mirror.specs.Run.{consumedOf}
-use Rattle.mirror.specs.Live.{panelOf, totalsOf}
-use Rattle.mirror.specs.PartLaws.{Counting, counting-starts, counting-ends, counting-within, counting-room, counting-goes}
+use Rattle.mirror.specs.engine.Live.{panelOf, totalsOf}
+use Rattle.mirror.specs.laws.PartLaws.{Counting, counting-starts, counting-ends, counting-within, counting-room, counting-goes}
 use Rattle.mirror.specs.declared.panel.Panel.{Panel}
 use Rattle.mirror.proofs.totals.Totals.consume.Statement.{statement}
 use Rattle.mirror.proofs.totals.Totals.consume.Tie as tie

@@ -1,0 +1,3 @@
+pub mod AgainCases
+pub mod DataWritesCases
+pub mod LinesCases

@@ -1,0 +1,9 @@
+pub mod AgainStateLaws
+pub mod RepeatsLaws
+pub mod AgainLaws
+pub mod EntryLaws
+pub mod AccountLaws
+pub mod StandsLaws
+pub mod DataWritesLaws
+pub mod LinesLaws
+pub mod FollowsLaws

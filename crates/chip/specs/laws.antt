@@ -1,0 +1,4 @@
+pub mod StepLaws
+pub mod WidthLaws
+pub mod SoundLaws
+pub mod FunctionLaws

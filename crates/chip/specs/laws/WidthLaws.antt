@@ -1,0 +1,66 @@
+-- The width: Function Set, 20h to 3Fh, gives it by bit 4, and nothing else changes it.
+use Prim.Native.Nat.{ℕ, _%_, _≤_}
+use mathlib.Core.Path.{_≡_, refl, ap, _∙_}
+use mathlib.Core.Bool.{Bool, true, false}
+use native.Mathlib.Omega.{arith}
+use lib.Dec.{ltb}
+use borrow.Author.Tests.{ltb-false, le-ltb}
+use Rattle.laws.specs.Pick.{pick}
+use Rattle.chip.specs.Address.{display, pattern}
+use Rattle.chip.specs.Instruction.{bit, unset, decoded}
+use Rattle.chip.specs.Step.{acted, obeyed, writtenAt, written}
+use Rattle.chip.specs.laws.StepLaws.{pattern-write-keeps, display-write-keeps}
+use Rattle.chip.specs.declared.address.Address.{Address}
+use Rattle.chip.specs.declared.address.Address.the-variants.{Display, Pattern}
+use Rattle.chip.specs.declared.instruction.Instruction.{Instruction}
+use Rattle.chip.specs.declared.instruction.Instruction.the-variants.{Nothing, Clear, Home, Entry, Screen, Move, Shift, Function, Set}
+use Rattle.chip.specs.declared.sheet.Sheet.{Sheet}
+
+-- an instruction that leaves the width
+data Keeps : Instruction → Type 0 where
+  keeps : (i : Instruction) → ((s : Sheet) → acted i s .registers .eight ≡ s .registers .eight) → Keeps i
+
+either : (b : Bool) {x y : Instruction} → Keeps x → Keeps y → Keeps (pick b x y)
+either true k l = k
+either false k l = l
+
+low-keeps : (code : ℕ) → ltb code 0x20 ≡ true → Keeps (decoded code)
+low-keeps code e =
+    rw e
+    (either (ltb code 0x01) (keeps Nothing (λ s. refl))
+    (either (ltb code 0x02) (keeps Clear (λ s. refl))
+    (either (ltb code 0x04) (keeps Home (λ s. refl))
+    (either (ltb code 0x08) (keeps (Entry (bit 2 code) (bit 1 code)) (λ s. refl))
+    (either (ltb code 0x10) (keeps (Screen (bit 4 code) (bit 2 code) (bit 1 code)) (λ s. refl))
+    (either (ltb code 0x18) (keeps (Move (bit 4 code)) (λ s. refl))
+    (keeps (Shift (unset 4 code)) (λ s. refl))))))))
+
+high-code : (code : ℕ) → 0x20 ≤ code →
+    decoded code ≡
+    pick (ltb code 0x40) (Function (bit 16 code) (code % 16)) (pick (ltb code 0x80) (Set (Pattern (pattern (code % 32)))) (Set (Display (display (code % 16)))))
+high-code code h =
+    rw (le-ltb code 0x01 (omega arith), le-ltb code 0x02 (omega arith), le-ltb code 0x04 (omega arith), le-ltb code 0x08 (omega arith), le-ltb code 0x10 (omega arith), le-ltb code 0x18 (omega arith), le-ltb code 0x20 h)
+
+pub obeyed-width : (code : ℕ) (s : Sheet) →
+    obeyed code s .registers .eight ≡ pick (ltb code 0x20) (s .registers .eight) (pick (ltb code 0x40) (bit 16 code) (s .registers .eight))
+obeyed-width code s = by (ltb code 0x20) refl where
+  eight : Bool
+  eight = s .registers .eight
+
+  kept : {i : Instruction} → Keeps i → acted i s .registers .eight ≡ eight
+  kept (keeps i k) = k s
+
+  high : (a b : Bool) → acted (pick a (Function (bit 16 code) (code % 16)) (pick b (Set (Pattern (pattern (code % 32)))) (Set (Display (display (code % 16)))))) s .registers .eight ≡ pick a (bit 16 code) eight
+  high true b = refl
+  high false true = refl
+  high false false = refl
+
+  by : (b : Bool) → ltb code 0x20 ≡ b → obeyed code s .registers .eight ≡ pick b eight (pick (ltb code 0x40) (bit 16 code) eight)
+  by true e = kept (low-keeps code e)
+  by false e = ap (λ i. acted i s .registers .eight) (high-code code (ltb-false code 0x20 e)) ∙ high (ltb code 0x40) (ltb code 0x80)
+
+pub written-width : (byte : ℕ) (s : Sheet) → written byte s .registers .eight ≡ s .registers .eight
+written-width byte s = by (s .registers .address) where
+  by : (a : Address) → writtenAt a byte s .registers .eight ≡ s .registers .eight
+  by (Display d) = display-write-keeps d byte s .2 .0
+  by (Pattern q) = pattern-write-keeps q byte s .3 .0

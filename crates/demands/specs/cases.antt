@@ -1,0 +1,13 @@
+pub mod Logs
+pub mod Naive
+pub mod Cases
+pub mod RowCases
+pub mod StepCases
+pub mod HalfCases
+pub mod AnswerCases
+pub mod RunCases
+pub mod SoundCases
+pub mod GlassCases
+pub mod StrikeCases
+pub mod Refuted
+pub mod RefutedPicture

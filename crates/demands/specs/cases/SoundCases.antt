@@ -1,0 +1,88 @@
+-- THE TABLE OF SOUNDNESS (document 01, "The panel"): each clause at its edge, all else being in range.
+use Prim.Native.Nat.{ℕ}
+use mathlib.Core.Path.{refl}
+use mathlib.Core.Bool.{Bool, true, false}
+use mathlib.Core.List.{List, [], _∷_}
+use Rattle.mirror.specs.Panel.{soundPanel}
+use Rattle.mirror.specs.declared.half.Half.{Half}
+use Rattle.mirror.specs.declared.half.Half.the-variants.{Empty}
+use Rattle.mirror.specs.declared.panel.Panel.{Panel}
+use Rattle.chip.specs.declared.address.Address.{Address}
+use Rattle.demands.specs.cases.RowCases.{Hold, recording, shows, draws, regs, down, up, codes, dots, with, panelWith, panel, held, missed, afresh}
+
+-- an address; a shift; Function Set bits; a pattern memory; a width and what waits at it; a busy end; a last time
+abbrev at : Address → Panel
+at address = panel (regs address 6 0 1 1 0 1 8 5) 900 Empty 800
+
+abbrev shifted : ℕ → Panel
+shifted shift = panel (regs (draws 22) shift 0 1 1 0 1 8 5) 900 Empty 800
+
+abbrev kept : ℕ → Panel
+kept bits = panel (regs (shows 9) 6 0 1 1 0 1 8 bits) 900 Empty 800
+
+abbrev drawn : List ℕ → Panel
+drawn pattern = panelWith (down 8) codes pattern 900 Empty 800
+
+abbrev waits : ℕ → Half → Panel
+waits width half = panel (down width) 900 half 800
+
+abbrev until : ℕ → Panel
+until busy = panel (down 8) busy Empty 800
+
+abbrev since : ℕ → Panel
+since last = panel (down 8) 900 Empty last
+
+abbrev clauses : List (Panel × Bool)
+clauses =
+    (afresh 0 0, true)
+    -- the address in its memory, the shift, the Function Set bits
+    ∷ (at (shows 0), true)
+    ∷ (at (shows 15), true)
+    ∷ (at (shows 16), false)
+    ∷ (at (shows 31), false)
+    ∷ (at (draws 16), true)
+    ∷ (at (draws 31), true)
+    ∷ (at (draws 32), false)
+    ∷ (shifted 15, true)
+    ∷ (shifted 16, false)
+    ∷ (kept 15, true)
+    ∷ (kept 16, false)
+    -- pattern entries at most 31, at the first place, the last and between; display memory holds any byte
+    ∷ (drawn (with 0 31 dots), true)
+    ∷ (drawn (with 0 32 dots), false)
+    ∷ (drawn (with 13 32 dots), false)
+    ∷ (drawn (with 31 31 dots), true)
+    ∷ (drawn (with 31 32 dots), false)
+    ∷ (panelWith (up 4) (with 0 0xff (with 15 0x00 codes)) dots 900 Empty 800, true)
+    -- no half at width 8; at width 4 a nibble of four bits, whatever its RS and R/W
+    ∷ (waits 4 Empty, true)
+    ∷ (waits 4 (held 0 0 15), true)
+    ∷ (waits 4 (held 0 1 15), true)
+    ∷ (waits 4 (held 1 0 15), true)
+    ∷ (waits 4 (held 1 1 15), true)
+    ∷ (waits 4 (held 0 0 16), false)
+    ∷ (waits 4 (held 0 1 16), false)
+    ∷ (waits 4 (held 1 0 16), false)
+    ∷ (waits 4 (held 1 1 16), false)
+    ∷ (waits 8 (held 0 0 5), false)
+    ∷ (waits 8 (held 0 1 5), false)
+    ∷ (waits 8 (held 1 1 5), false)
+    ∷ (waits 8 (missed 0 0), false)
+    ∷ (waits 8 (missed 1 0), false)
+    -- no status half marked ignored
+    ∷ (waits 4 (missed 0 0), true)
+    ∷ (waits 4 (missed 1 0), true)
+    ∷ (waits 4 (missed 1 1), true)
+    ∷ (waits 4 (missed 0 1), false)
+    -- last time below 2^48, busy end below 2^48 + 65,536, whichever is the later
+    ∷ (since 0xffff_ffff_ffff, true)
+    ∷ (since 0x1_0000_0000_0000, false)
+    ∷ (until 0, true)
+    ∷ (until 0x1_0000_0000_0000, true)
+    ∷ (until 0x1_0000_0000_ffff, true)
+    ∷ (until 0x1_0000_0001_0000, false)
+    ∷ []
+
+pub soundness-computed : Hold soundPanel clauses
+unfolding recording
+soundness-computed = refl

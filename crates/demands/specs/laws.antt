@@ -1,0 +1,15 @@
+pub mod EngineLaws
+pub mod AnswersLaws
+pub mod ChainLaws
+pub mod Ways
+pub mod ReplayLaws
+pub mod MirrorLaws
+pub mod StrikingLaws
+pub mod RulesLaws
+pub mod CountsLaws
+pub mod UniqueChip
+pub mod UniqueDesk
+pub mod UniqueLog
+pub mod UniqueMirror
+pub mod UniquePicture
+pub mod UniqueAccount

@@ -1,0 +1,203 @@
+-- The counts of a run: each is the number of records answered so, and together they are the number of records.
+use Prim.Native.Nat.{ℕ, _+_, _≤_, _<_}
+use native.Mathlib.Omega.{arith}
+use native.Mathlib.Nat.{zero-add}
+use mathlib.Core.Path.{_≡_, refl, sym, ap, _∙_}
+use mathlib.Core.Bool.{Bool, true, false, false≢true}
+use mathlib.Core.List.{List, [], _∷_}
+use lib.ListN.{length, getD, set, replicate, length-set, length-drop, getD-replicate}
+use lib.Seq.{getD-set-same, getD-set-other}
+use lib.Dec.{ltb, eqb}
+use borrow.Author.Tests.{ltb-true, ltb-false, eqb-true, eqb-false}
+use Rattle.laws.specs.Pick.{pick}
+use Rattle.log.specs.Frame.{recordSize, timeOf, rsOf, rwOf, dataOf, isReset, cutAt, badAt, frameOf}
+use Rattle.log.specs.Frames.{frames, recordsOf}
+use Rattle.log.specs.laws.FrameLaws.{IsRecord}
+use Rattle.log.specs.laws.FramesLaws.{AllRecords, frames-cut, frames-next, frames-induction, frames-are-records}
+use Rattle.log.specs.laws.FrontLaws.{uncut-front}
+use Rattle.log.specs.declared.frame.Frame.{Frame}
+use Rattle.log.specs.declared.frame.Frame.the-variants as frame
+use Rattle.mirror.specs.Answer.{numberOf}
+use Rattle.mirror.specs.engine.Way.{Way, wayOf}
+use Rattle.mirror.specs.Words.{joinedOf, free}
+use Rattle.mirror.specs.engine.Record.{went, transferred, answered}
+use Rattle.mirror.specs.Run.{mostCount, capped, raised, tallied, started}
+use Rattle.mirror.specs.Panel.{soundPanel}
+use Rattle.mirror.specs.Stream.{runAs, runOf}
+use Rattle.mirror.specs.laws.StreamLaws.{raised-capped, onward-records}
+use Rattle.mirror.specs.declared.answer.Answer.{Answer}
+use Rattle.mirror.specs.declared.answer.Answer.the-variants as say
+use Rattle.mirror.specs.declared.panel.Panel.{Panel}
+use Rattle.mirror.specs.declared.record.Recorded.{Recorded}
+use Rattle.striking.specs.Machine.{Answered, run}
+use Rattle.demands.specs.Mirrors.{Reply, Mirror, ours, machineOf}
+use Rattle.demands.specs.laws.EngineLaws.{engine}
+use Rattle.demands.specs.Answers.{answersBy, countsOf, numbers}
+use Rattle.demands.specs.laws.AnswersLaws.{OfRun, of-engine, of-run}
+use Rattle.demands.specs.Rules.{occurrences, InMemory, Counts, CountsRecords, AddsUp}
+
+-- EACH COUNT. One answer more
+tally-length : (counts : List ℕ) (a : Answer) → length (tallied counts a) ≡ length counts
+unfolding tallied
+tally-length counts a = by (ltb (numberOf a) 8)
+  where
+    by : (x : Bool) → length (pick x (set counts (numberOf a) (raised (getD counts (numberOf a) 0))) counts) ≡ length counts
+    by true = length-set counts (numberOf a) (raised (getD counts (numberOf a) 0))
+    by false = refl
+
+tally-at : (counts : List ℕ) (a : Answer) (n k : ℕ) → n < 8 → length counts ≡ 8 → getD counts n 0 ≡ capped k →
+    getD (tallied counts a) n 0 ≡ capped (pick (eqb (numberOf a) n) 1 0 + k)
+unfolding tallied
+tally-at counts a n k h l e = by (ltb (numberOf a) 8) refl (eqb (numberOf a) n) refl
+  where
+    m : ℕ
+    m = numberOf a
+
+    by : (x : Bool) → ltb m 8 ≡ x → (y : Bool) → eqb m n ≡ y →
+        getD (pick x (set counts m (raised (getD counts m 0))) counts) n 0 ≡ capped (pick y 1 0 + k)
+    by true f true g =
+        let i : m ≡ n = eqb-true m n g in
+        let c : k + 1 ≡ 1 + k = omega arith in
+        ap (λ j. getD (set counts m (raised (getD counts m 0))) j 0) (sym i)
+        ∙ getD-set-same counts m (raised (getD counts m 0)) 0 (omega (arith, ltb-true m 8 f))
+        ∙ ap raised (ap (λ j. getD counts j 0) i ∙ e)
+        ∙ raised-capped k
+        ∙ ap capped c
+    by true f false g = getD-set-other counts m n (raised (getD counts m 0)) 0 (λ i. eqb-false m n g (sym i)) ∙ e ∙ ap capped (sym (zero-add k))
+    by false f true g = absurd (omega (arith, ltb-false m 8 f, eqb-true m n g))
+    by false f false g = e ∙ ap capped (sym (zero-add k))
+
+count-at : (answers : List (Answered (List ℕ) Reply)) (counts : List ℕ) (n k : ℕ) → n < 8 → length counts ≡ 8 → getD counts n 0 ≡ capped k →
+    getD (countsOf counts answers) n 0 ≡ capped (occurrences n (numbers answers) + k)
+count-at [] counts n k h l e = e ∙ ap capped (sym (zero-add k))
+count-at (a ∷ rest) counts n k h l e =
+    let x = a .answer .answer in
+    let one : ℕ = pick (eqb (numberOf x) n) 1 0 in
+    let c : occurrences n (numbers rest) + (one + k) ≡ one + occurrences n (numbers rest) + k = omega arith in
+    count-at rest (tallied counts x) n (one + k) h (tally-length counts x ∙ l) (tally-at counts x n k h l e) ∙ ap capped c
+
+each-count : (m : Mirror) (p : Panel) (log : List ℕ) → OfRun m p log → (n : ℕ) → n < 8 →
+    getD (runOf p log .counts) n 0 ≡ capped (occurrences n (numbers (answersBy m p log)))
+each-count m p log r n h =
+    let answers = answersBy m p log in
+    let c : occurrences n (numbers answers) + 0 ≡ occurrences n (numbers answers) = omega arith in
+    ap (λ l. getD l n 0) (r .counts) ∙ count-at answers (replicate 8 0) n 0 h refl (getD-replicate 8 n 0 0 h) ∙ ap capped c
+
+-- COUNTS: each is the number of records that were answered so
+pub counts : Counts runOf
+counts p log h = each-count ours p log (of-run p log h)
+
+-- TOGETHER. Every record of a log is answered 0 to 7
+abbrev Counted : Answer → Type 0
+Counted a = ltb (numberOf a) 8 ≡ true
+
+went-counted : (v : Way) (time : ℕ) (rs wr : Bool) (bus byte : ℕ) (p : Panel) → Counted (went v time rs wr bus byte p .answer)
+went-counted Way.Torn time rs wr bus byte p = refl
+went-counted Way.Ignored time rs wr bus byte p = refl
+went-counted Way.Missed time rs wr bus byte p = refl
+went-counted Way.Nothing time rs wr bus byte p = refl
+went-counted Way.HoldStatus time rs wr bus byte p = refl
+went-counted Way.HoldRead time rs wr bus byte p = refl
+went-counted Way.HoldWrite time rs wr bus byte p = refl
+went-counted Way.Status time rs wr bus byte p = refl
+went-counted Way.StatusEnd time rs wr bus byte p = refl
+went-counted Way.Read time rs wr bus byte p = refl
+went-counted Way.ReadEnd time rs wr bus byte p = refl
+went-counted Way.Write time rs wr bus byte p = refl
+went-counted Way.Obey time rs wr bus byte p = refl
+
+pick-counted : (z : Bool) (x y : Recorded) → Counted (x .answer) → Counted (y .answer) → Counted (pick z x y .answer)
+pick-counted true x y h k = h
+pick-counted false x y h k = k
+
+answered-counted : (f : Frame) (p : Panel) → IsRecord f → Counted (answered f p .answer)
+unfolding transferred
+answered-counted frame.Cut p r = absurd r
+answered-counted (frame.Bad size) p r = refl
+answered-counted (frame.Reset time) p r = pick-counted (ltb time (p .last)) _ _ refl refl
+answered-counted (frame.Transfer time rs wr bus) p r =
+    let byte = joinedOf (p .sheet .registers .eight) (p .half) bus in
+    pick-counted (ltb time (p .last)) _ (transferred time rs wr bus p) refl
+    (went-counted (wayOf (p .sheet .registers .eight) (p .half) (free time p) rs wr byte) time rs wr bus byte p)
+
+uncut-record : (s : List ℕ) → cutAt s ≡ false → IsRecord (frameOf s)
+unfolding frameOf
+uncut-record s u = rw u (by (badAt s) (isReset s))
+  where
+    by : (b r : Bool) → IsRecord (pick b (frame.Bad (recordSize s)) (pick r (frame.Reset (timeOf s)) (frame.Transfer (timeOf s) (rsOf s) (rwOf s) (dataOf s))))
+    by true r = tt
+    by false true = tt
+    by false false = tt
+
+-- how often each of the eight numbers stands among the answers, all together
+abbrev occurring : List ℕ → ℕ
+occurring l =
+    occurrences 0 l + occurrences 1 l + occurrences 2 l + occurrences 3 l + occurrences 4 l + occurrences 5 l + occurrences 6 l + occurrences 7 l
+
+one-more : (a : Answer) (l : List ℕ) → Counted a → occurring (numberOf a ∷ l) ≡ 1 + occurring l
+one-more say.Taken l h = omega arith
+one-more say.Held l h = omega arith
+one-more say.Status l h = omega arith
+one-more say.Ignored l h = omega arith
+one-more say.Torn l h = omega arith
+one-more say.Back l h = omega arith
+one-more say.Bad l h = omega arith
+one-more say.Nothing l h = omega arith
+one-more say.Cut l h = absurd (false≢true h)
+one-more say.Unsound l h = absurd (false≢true h)
+
+occurring-all : (fs : List (List ℕ)) (p : Panel) → AllRecords fs → occurring (numbers (run (machineOf engine) p fs)) ≡ length fs
+occurring-all [] p h = refl
+occurring-all (f ∷ fs) p h =
+    let r = answered (frameOf f) p in
+    let rest = numbers (run (machineOf engine) (r .panel) fs) in
+    omega (arith, one-more (r .answer) rest (answered-counted (frameOf f) p (uncut-record f (h .0 .uncut))), occurring-all fs (r .panel) (h .1))
+
+capped-small : (n : ℕ) → n ≤ mostCount → capped n ≡ n
+capped-small n h = by (ltb n mostCount) refl
+  where
+    by : (b : Bool) → ltb n mostCount ≡ b → pick b n mostCount ≡ n
+    by true e = refl
+    by false e = omega (arith, h, ltb-false n mostCount e)
+
+-- a log has no more records than bytes
+few-records : (log : List ℕ) → recordsOf log ≤ length log
+few-records =
+    frames-induction (λ s. recordsOf s ≤ length s) (λ s u. rw (frames-cut s u) (omega arith))
+    (λ s u h. rw (frames-next s u) (omega (arith, h, length-drop (recordSize s) s, uncut-front s u .fits, uncut-front s u .least)))
+
+in-count : (log : List ℕ) → InMemory log → capped (recordsOf log) ≡ recordsOf log
+in-count log h = capped-small (recordsOf log) (omega (arith, h, few-records log))
+
+-- COUNTS: the number of records is read off the lengths alone, whatever the panel
+pub counts-records : CountsRecords runOf
+unfolding runOf
+counts-records p log h = by (soundPanel p) ∙ in-count log h
+  where
+    none : 0 + recordsOf log ≡ recordsOf log
+    none = omega arith
+
+    by : (b : Bool) → runAs b p log .records ≡ capped (recordsOf log)
+    by true = onward-records (frames log) (started p) 0 refl ∙ ap capped none
+    by false = refl
+
+-- COUNTS: they add up to the number of records
+pub adds-up : AddsUp runOf
+adds-up p log s h =
+    let l = numbers (answersBy engine p log) in
+    let all : occurring l ≡ recordsOf log = occurring-all (frames log) p (frames-are-records log) in
+    let few = few-records log in
+    let at : (n : ℕ) → n < 8 → occurrences n l ≤ recordsOf log → getD (runOf p log .counts) n 0 ≡ occurrences n l =
+    λ n k m. each-count engine p log (of-engine p log s) n k ∙ capped-small (occurrences n l) (omega (arith, m, h, few)) in
+    omega (
+      arith,
+      all,
+      at 0 (omega arith) (omega (arith, all)),
+      at 1 (omega arith) (omega (arith, all)),
+      at 2 (omega arith) (omega (arith, all)),
+      at 3 (omega arith) (omega (arith, all)),
+      at 4 (omega arith) (omega (arith, all)),
+      at 5 (omega arith) (omega (arith, all)),
+      at 6 (omega arith) (omega (arith, all)),
+      at 7 (omega arith) (omega (arith, all)),
+    )

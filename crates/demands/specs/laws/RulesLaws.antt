@@ -1,0 +1,171 @@
+-- Our mirror keeps the busy rule and the steps.
+use Prim.Native.Nat.{ℕ, _+_, _≤_}
+use mathlib.Core.Path.{_≡_, refl, sym, ap, _∙_, subst}
+use mathlib.Core.Bool.{Bool, true, false, not, _&&_, _||_, Bool·beq, false≢true}
+use mathlib.Core.List.{List, []}
+use lib.Dec.{ltb, leb, eqb}
+use borrow.Author.Tests.{le-ltb, eqb-true}
+use Rattle.laws.specs.Pick.{pick}
+use Rattle.log.specs.Frame.{frameOf}
+use Rattle.log.specs.declared.frame.Frame.the-variants.{Transfer}
+use Rattle.chip.specs.Sound.{soundSheet}
+use Rattle.chip.specs.Step.{obeyed}
+use Rattle.chip.specs.declared.sheet.Sheet.{Sheet}
+use Rattle.mirror.specs.Answer.{numberOf}
+use Rattle.mirror.specs.Panel.{timeEnd, halfFits, soundPanel}
+use Rattle.mirror.specs.engine.Way.{Way, finishOf, wholeOf, firstOf, secondOf, wayOf}
+use Rattle.mirror.specs.Words.{joinedOf, free}
+use Rattle.mirror.specs.engine.Record.{recorded, went, transferred, answered}
+use Rattle.mirror.specs.declared.answer.Answer.the-variants as say
+use Rattle.mirror.specs.declared.half.Half.{Half}
+use Rattle.mirror.specs.declared.half.Half.the-variants.{Empty, Ignored, Waiting}
+use Rattle.mirror.specs.declared.panel.Panel.{Panel}
+use Rattle.mirror.specs.declared.record.Recorded.{Recorded}
+use Rattle.mirror.specs.laws.TableLaws.{answered-sound}
+use Rattle.demands.specs.Mirrors.{ours}
+use Rattle.demands.specs.Replay.{Entry, carriedAll, entryOf}
+use Rattle.demands.specs.Rules.{matching, busyAt, entriesAt, IgnoresBusy, Steps}
+use Rattle.demands.specs.laws.Ways.{Narrow}
+
+-- no half waits at width 8 in a sound panel
+fits-narrow : (eight : Bool) (h : Half) → halfFits eight h ≡ true → Narrow eight h
+fits-narrow true Empty f e = refl
+fits-narrow true (Ignored rs wr) f e = absurd (false≢true f)
+fits-narrow true (Waiting rs wr nibble) f e = absurd (false≢true f)
+fits-narrow false h f e = absurd (false≢true e)
+
+sound-narrow : (p : Panel) → soundPanel p ≡ true → Narrow (p .sheet .registers .eight) (p .half)
+sound-narrow p e =
+    let eight = p .sheet .registers .eight in
+    fits-narrow eight (p .half) (by (soundSheet (p .sheet)) (halfFits eight (p .half)) (pick (leb timeEnd (p .last)) false (ltb (p .busy) (timeEnd + 65536))) e)
+  where
+    by : (s f rest : Bool) → pick (not s) false (pick (not f) false rest) ≡ true → f ≡ true
+    by true true rest e = refl
+    by true false rest e = e
+    by false f rest e = absurd (false≢true e)
+
+-- a record that is not back in time
+in-time : (p : Panel) (bytes : List ℕ) (time : ℕ) (rs wr : Bool) (bus : ℕ) → frameOf bytes ≡ Transfer time rs wr bus → p .last ≤ time →
+    answered (frameOf bytes) p ≡ transferred time rs wr bus p
+in-time p bytes time rs wr bus f l =
+    ap (λ x. answered x p) f ∙ ap (λ z. pick z (recorded p say.Back 0 14) (transferred time rs wr bus p)) (le-ltb time (p .last) l)
+
+module _ (time : ℕ) (r w : Bool) (bus byte : ℕ) (p : Panel) where
+  -- whether a way comes to ignored
+  abbrev ignores : Way → Bool
+  ignores v = eqb (numberOf (went v time r w bus byte p .answer)) 3
+
+  -- a write that is complete does not
+  finish-heard : (rs : Bool) (b : ℕ) → ignores (finishOf rs b) ≡ false
+  finish-heard true b = refl
+  finish-heard false b = by (eqb b 0)
+    where
+      by : (z : Bool) → ignores (pick z Way.Nothing Way.Obey) ≡ false
+      by true = refl
+      by false = refl
+
+  whole-ignores : (z rs wr : Bool) (b : ℕ) → (rs || not wr) ≡ true → ignores (wholeOf z rs wr b) ≡ not z
+  whole-ignores true rs false b u = finish-heard rs b
+  whole-ignores false rs false b u = refl
+  whole-ignores true true true b u = refl
+  whole-ignores false true true b u = refl
+  whole-ignores z false true b u = absurd (false≢true u)
+
+  first-ignores : (z rs wr : Bool) → (rs || not wr) ≡ true → ignores (firstOf z rs wr) ≡ not z
+  first-ignores true rs false u = refl
+  first-ignores false rs false u = refl
+  first-ignores true true true u = refl
+  first-ignores false true true u = refl
+  first-ignores z false true u = absurd (false≢true u)
+
+  second-heard : (rs wr : Bool) (b : ℕ) → ignores (secondOf rs wr b) ≡ false
+  second-heard rs false b = finish-heard rs b
+  second-heard true true b = refl
+  second-heard false true b = refl
+
+  -- a second half that matches goes its way
+  untorn : (a b : Bool) (v : Way) → (a && b) ≡ true → ignores (pick (not a) Way.Torn (pick (not b) Way.Torn v)) ≡ ignores v
+  untorn true true v e = refl
+  untorn true false v e = absurd (false≢true e)
+  untorn false b v e = absurd (false≢true e)
+
+  way-ignores : (eight : Bool) (h : Half) (z rs wr : Bool) (b : ℕ) → Narrow eight h → (rs || not wr) ≡ true → matching h rs wr ≡ true →
+      ignores (wayOf eight h z rs wr b) ≡ busyAt h z
+  way-ignores true h z rs wr b n u m = whole-ignores z rs wr b u ∙ sym (ap (λ x. busyAt x z) (n refl))
+  way-ignores false Empty z rs wr b n u m = first-ignores z rs wr u
+  way-ignores false (Ignored r₁ w₁) z rs wr b n u m = untorn (Bool·beq r₁ rs) (Bool·beq w₁ wr) Way.Ignored m
+  way-ignores false (Waiting r₁ w₁ nibble) z rs wr b n u m =
+      untorn (Bool·beq r₁ rs) (Bool·beq w₁ wr) (secondOf rs wr b) m ∙ second-heard rs wr b
+
+-- DEMAND 2, THE BUSY RULE
+pub ignores-busy : IgnoresBusy ours
+unfolding transferred
+ignores-busy p bytes time rs wr bus s f l u m =
+    let eight = p .sheet .registers .eight in
+    let byte = joinedOf eight (p .half) bus in
+    ap (λ (r : Recorded). eqb (numberOf (r .answer)) 3) (sym (answered-sound p bytes s) ∙ in-time p bytes time rs wr bus f l)
+    ∙ way-ignores time rs wr bus byte p eight (p .half) (free time p) rs wr byte (sound-narrow p s) u m
+
+module _ (time : ℕ) (r w : Bool) (bus byte : ℕ) (p : Panel) where
+  -- the sheet that a way comes to
+  abbrev sheetBy : Way → Sheet
+  sheetBy v = went v time r w bus byte p .panel .sheet
+
+  finish-sheet : (rs : Bool) → sheetBy (finishOf rs byte) ≡ carriedAll (entryOf rs false byte) (p .sheet)
+  finish-sheet true = refl
+  finish-sheet false = by (eqb byte 0) refl
+    where
+      by : (z : Bool) → eqb byte 0 ≡ z → sheetBy (pick z Way.Nothing Way.Obey) ≡ obeyed byte (p .sheet)
+      by true e = sym (ap (λ n. obeyed n (p .sheet)) (eqb-true byte 0 e))
+      by false e = refl
+
+  whole-sheet : (z rs wr : Bool) → sheetBy (wholeOf z rs wr byte) ≡ carriedAll (entriesAt true Empty z rs wr byte) (p .sheet)
+  whole-sheet true rs false = finish-sheet rs
+  whole-sheet true true true = refl
+  whole-sheet true false true = refl
+  whole-sheet false rs false = refl
+  whole-sheet false true true = refl
+  whole-sheet false false true = refl
+
+  first-sheet : (z rs wr : Bool) → sheetBy (firstOf z rs wr) ≡ carriedAll (entriesAt false Empty z rs wr bus) (p .sheet)
+  first-sheet true rs false = refl
+  first-sheet true true true = refl
+  first-sheet true false true = refl
+  first-sheet false rs false = refl
+  first-sheet false true true = refl
+  first-sheet false false true = refl
+
+  second-sheet : (rs wr : Bool) → sheetBy (secondOf rs wr byte) ≡ carriedAll (entryOf rs wr byte) (p .sheet)
+  second-sheet rs false = finish-sheet rs
+  second-sheet true true = refl
+  second-sheet false true = refl
+
+  torn-sheet : (a b : Bool) (v : Way) (es : List Entry) → sheetBy v ≡ carriedAll es (p .sheet) →
+      sheetBy (pick (not a) Way.Torn (pick (not b) Way.Torn v)) ≡ carriedAll (pick (a && b) es []) (p .sheet)
+  torn-sheet true true v es h = h
+  torn-sheet true false v es h = refl
+  torn-sheet false b v es h = refl
+
+ignored-sheet : (a b : Bool) (time : ℕ) (r w : Bool) (bus byte : ℕ) (p : Panel) →
+    sheetBy time r w bus byte p (pick (not a) Way.Torn (pick (not b) Way.Torn Way.Ignored)) ≡ p .sheet
+ignored-sheet true true time r w bus byte p = refl
+ignored-sheet true false time r w bus byte p = refl
+ignored-sheet false b time r w bus byte p = refl
+
+way-sheet : (eight : Bool) (h : Half) (z rs wr : Bool) (time bus : ℕ) (p : Panel) → Narrow eight h →
+    sheetBy time rs wr bus (joinedOf eight h bus) p (wayOf eight h z rs wr (joinedOf eight h bus)) ≡ carriedAll (entriesAt eight h z rs wr bus) (p .sheet)
+way-sheet true h z rs wr time bus p n =
+    subst (λ x. sheetBy time rs wr bus bus p (wholeOf z rs wr bus) ≡ carriedAll (entriesAt true x z rs wr bus) (p .sheet)) (sym (n refl))
+    (whole-sheet time rs wr bus bus p z rs wr)
+way-sheet false Empty z rs wr time bus p n = first-sheet time rs wr bus (joinedOf false Empty bus) p z rs wr
+way-sheet false (Ignored a b) z rs wr time bus p n = ignored-sheet (Bool·beq a rs) (Bool·beq b wr) time rs wr bus (joinedOf false (Ignored a b) bus) p
+way-sheet false (Waiting a b nibble) z rs wr time bus p n =
+    let byte = joinedOf false (Waiting a b nibble) bus in
+    torn-sheet time rs wr bus byte p (Bool·beq a rs) (Bool·beq b wr) (secondOf rs wr byte) (entryOf rs wr byte) (second-sheet time rs wr bus byte p rs wr)
+
+-- DEMAND 2, THE STEPS
+pub steps : Steps ours
+unfolding transferred
+steps p bytes time rs wr bus s f l =
+    ap (λ (x : Recorded). x .panel .sheet) (sym (answered-sound p bytes s) ∙ in-time p bytes time rs wr bus f l)
+    ∙ way-sheet (p .sheet .registers .eight) (p .half) (free time p) rs wr time bus p (sound-narrow p s)

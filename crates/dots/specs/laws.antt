@@ -1,0 +1,7 @@
+pub mod BitLaws
+pub mod TableLaws
+pub mod LandingLaws
+pub mod CellsLaws
+pub mod FirstLaws
+pub mod TallyLaws
+pub mod OnesLaws

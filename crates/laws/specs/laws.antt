@@ -1,0 +1,4 @@
+pub mod Lists
+pub mod PickLaws
+pub mod RingLaws
+pub mod TurnsLaws

@@ -1,0 +1,6 @@
+pub mod Way
+pub mod Record
+pub mod Flat
+pub mod Live
+pub mod Acts
+pub mod Part

@@ -1,0 +1,17 @@
+pub mod FlatLaws
+pub mod LiveLaws
+pub mod ActsLaws
+pub mod RecordLaws
+pub mod SoundParts
+pub mod TableLaws
+pub mod RunLaws
+pub mod PartLaws
+pub mod StreamLaws
+pub mod NextLaws
+pub mod TableCase
+pub mod RecordKeeps
+pub mod HalfLaws
+pub mod SoundLaws
+pub mod TypedLaws
+pub mod BusyLaws
+pub mod AskedLaws

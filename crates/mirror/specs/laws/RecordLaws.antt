@@ -1,0 +1,58 @@
+-- Laws of one record that the engine's proofs cite.
+use Prim.Native.Nat.{ℕ, _%_}
+use mathlib.Core.Path.{_≡_, sym, ap, _∙_}
+use mathlib.Core.Bool.{Bool, true, false}
+use mathlib.Core.List.{List}
+use Rattle.laws.specs.Pick.{pick}
+use Rattle.log.specs.Frame.{frameOf}
+use Rattle.chip.specs.Sheet.{sheetOf, readHere}
+use Rattle.chip.specs.declared.registers.Registers.{Registers}
+use Rattle.chip.specs.declared.sheet.Sheet.{Sheet}
+use Rattle.mirror.specs.Panel.{soundPanel}
+use Rattle.mirror.specs.engine.Way.{Way, wayOf}
+use Rattle.mirror.specs.Words.{joinedOf, free, holding, done, high}
+use Rattle.mirror.specs.engine.Record.{recorded, went, transferred, answered}
+use Rattle.mirror.specs.Table.{recordOf}
+use Rattle.mirror.specs.declared.answer.Answer.{Answer}
+use Rattle.mirror.specs.declared.answer.Answer.the-variants as say
+use Rattle.mirror.specs.declared.half.Half.the-variants.{Waiting}
+use Rattle.mirror.specs.declared.panel.Panel.{Panel}
+
+-- a transfer by its byte and its way, once they are known
+pub by-way : (time : ℕ) (rs wr : Bool) (bus : ℕ) (p : Panel) (byte : ℕ) (v : Way) →
+    byte ≡ joinedOf (p .sheet .registers .eight) (p .half) bus →
+    v ≡ wayOf (p .sheet .registers .eight) (p .half) (free time p) rs wr byte →
+    went v time rs wr bus byte p ≡ transferred time rs wr bus p
+unfolding transferred
+by-way time rs wr bus p byte v b d =
+    ap (λ x. went x time rs wr bus byte p) d ∙
+    ap (λ y. went (wayOf (p .sheet .registers .eight) (p .half) (free time p) rs wr y) time rs wr bus y p) b
+
+-- equal ways come to equal answers
+pub went-as : (time : ℕ) (rs wr : Bool) (bus byte : ℕ) (p : Panel) (v w : Way) → v ≡ w →
+    went v time rs wr bus byte p ≡ went w time rs wr bus byte p
+went-as time rs wr bus byte p v w e = ap (λ x. went x time rs wr bus byte p) e
+
+-- equal bytes, and equal sheets, come to equal answers
+pub held-as : (time : ℕ) (rs wr : Bool) (p : Panel) (b c : ℕ) → b ≡ c →
+    recorded (holding time (Waiting rs wr (b % 16)) p) say.Held (high b) 14 ≡ recorded (holding time (Waiting rs wr (c % 16)) p) say.Held (high c) 14
+held-as time rs wr p b c e = ap (λ x. recorded (holding time (Waiting rs wr (x % 16)) p) say.Held (high x) 14) e
+
+pub shown-as : (p : Panel) (a : Answer) (b c : ℕ) → b ≡ c → recorded p a b 14 ≡ recorded p a c 14
+shown-as p a b c e = ap (λ x. recorded p a x 14) e
+
+pub done-as : (time : ℕ) (s t : Sheet) (span : ℕ) (p : Panel) (b c used : ℕ) → s ≡ t → b ≡ c →
+    recorded (done time s span p) say.Taken b used ≡ recorded (done time t span p) say.Taken c used
+done-as time s t span p b c used e f =
+    ap (λ x. recorded (done time x span p) say.Taken b used) e ∙ ap (λ y. recorded (done time t span p) say.Taken y used) f
+
+-- a step of equal registers
+pub stepped-as : (f : Sheet → Sheet) (s : Sheet) (r q : Registers) (d p : List ℕ) → s ≡ f (sheetOf r d p) → r ≡ q → s ≡ f (sheetOf q d p)
+stepped-as f s r q d p e g = e ∙ ap (λ x. f (sheetOf x d p)) g
+
+pub read-as : (b : ℕ) (r q : Registers) (d p : List ℕ) → b ≡ readHere r d p → r ≡ q → b ≡ readHere q d p
+read-as b r q d p e g = e ∙ ap (λ x. readHere x d p) g
+
+pub span-as : (time : ℕ) (s : Sheet) (span width : ℕ) (p : Panel) (b used : ℕ) → span ≡ width →
+    recorded (done time s span p) say.Taken b used ≡ recorded (done time s width p) say.Taken b used
+span-as time s span width p b used e = ap (λ x. recorded (done time s x p) say.Taken b used) e

@@ -1,0 +1,249 @@
+-- One record is answered as the table says.
+use Prim.Native.Nat.{ℕ}
+use mathlib.Core.Path.{_≡_, refl, sym, ap, subst, _∙_}
+use mathlib.Core.Bool.{Bool, true, false, not, _&&_, _||_, Bool·beq, false≢true}
+use mathlib.Core.List.{List}
+use lib.Dec.{eqb}
+use Rattle.laws.specs.Pick.{pick}
+use Rattle.log.specs.Frame.{kindOf, timeOf, dataOf, rsOf, rwOf, isReset, recordSize, cutAt, badAt, frameOf}
+use Rattle.log.specs.laws.FrameLaws.{Seen, seen}
+use Rattle.log.specs.laws.FrameLaws.Seen.{cut, bad, transfer, reset}
+use Rattle.log.specs.declared.frame.Frame.{Frame}
+use Rattle.chip.specs.Sheet.{freshSheet}
+use Rattle.mirror.specs.Panel.{halfFits, soundPanel}
+use Rattle.mirror.specs.engine.Way.{Way, wholeOf, firstOf, secondOf, wayOf}
+use Rattle.mirror.specs.Words.{joinedOf, free, done}
+use Rattle.mirror.specs.engine.Record.{recorded, went, transferred, answered}
+use Rattle.mirror.specs.Table.{waits, isFirst, differs, tears, isStatus, busyAt, ignores, isNone, isBack, transferFor, heardFor, numberFor, byteFor, panelFor, usedFor, Tabled, rowOf, wholeAt, rowWith, rowFor, recordOf}
+use Rattle.mirror.specs.laws.SoundParts.{Sound, parts}
+use Rattle.mirror.specs.Answer.{numberOf, answerOf, carried, Paper, paper}
+use Rattle.mirror.specs.Promise.{Records}
+use Rattle.mirror.specs.declared.answer.Answer.{Answer}
+use Rattle.mirror.specs.declared.answer.Answer.the-variants as say
+use Rattle.mirror.specs.declared.half.Half.{Half}
+use Rattle.mirror.specs.declared.half.Half.the-variants.{Empty, Ignored, Waiting}
+use Rattle.mirror.specs.declared.panel.Panel.{Panel}
+use Rattle.mirror.specs.declared.record.Recorded.{Recorded}
+
+-- `transferFor` with all that it looks at apart, so that each can be generalised
+abbrev numberBy : Bool → Half → Bool → Bool → Bool → ℕ → ℕ
+numberBy eight half free rs wr byte =
+    let first = not eight && not (waits half) in
+    pick (differs half rs wr) 4
+    (pick (busyAt half (not (wr && not rs) && not free)) 3
+    (pick (not first && not rs && not wr && eqb byte 0) 7 (pick first 1 (pick (wr && not rs) 2 0))))
+
+-- a row whose number and byte look at no half at width 8
+record RowAt (n : ℕ) (p : Panel) (log : List ℕ) (r : Recorded) : Type 0 where
+  paper : paper (r .answer) (r .byte) ≡ record { number = n; byte = r .byte }
+  byte : r .byte ≡ byteFor n (wholeAt p) log
+  panel : r .panel ≡ panelFor n p log
+  used : r .used ≡ usedFor n log
+
+-- a panel with its width and half set anew
+abbrev at : Bool → Half → Panel → Panel
+at eight half p =
+    let r = p .sheet .registers in
+    record {
+      sheet =
+          record {
+            registers =
+                record { address = r .address; shift = r .shift; up = r .up; follow = r .follow; on = r .on; cursor = r .cursor; blink = r .blink; eight = eight; function = r .function };
+            display = p .sheet .display;
+            pattern = p .sheet .pattern;
+          };
+      busy = p .busy;
+      half = half;
+      times = p .times;
+      last = p .last;
+    }
+
+-- a transfer that is neither cut nor bad, with its RS and R/W
+record Good (log : List ℕ) (rs wr : Bool) : Type 0 where
+  kind : kindOf log ≡ 1
+  size : 14 ≡ recordSize log
+  rs-is : rsOf log ≡ rs
+  wr-is : rwOf log ≡ wr
+
+-- the row of a way
+abbrev Goes : ℕ → Way → ℕ → Panel → List ℕ → Type 0
+Goes n v byte p log = RowAt n p log (went v (timeOf log) (rsOf log) (rwOf log) (dataOf log) byte p)
+
+module _ (p : Panel) (log : List ℕ) where
+  row : {n : ℕ} {q : Panel} {r : Recorded} →
+      paper (r .answer) (r .byte) ≡ record { number = n; byte = r .byte } → r .byte ≡ byteFor n (wholeAt q) log → r .panel ≡ panelFor n q log →
+      r .used ≡ usedFor n log → RowAt n q log r
+  row a b c d = record { paper = a; byte = b; panel = c; used = d }
+
+  -- an instruction write that is complete
+  code : (eight : Bool) (half : Half) → Good log false false → (b : Bool) →
+      Goes (pick b 7 0) (pick b Way.Nothing Way.Obey) (joinedOf eight half (dataOf log)) (at eight half p) log
+  code eight half g true = row refl refl refl (g .size)
+  code eight half g false = row refl (rw (g .kind, g .wr-is)) (rw (g .kind, g .rs-is)) (g .size)
+
+  whole : (half : Half) (free wr rs : Bool) → Good log rs wr →
+      let byte = dataOf log in Goes (numberBy true Empty free rs wr byte) (wholeOf free rs wr byte) byte (at true half p) log
+  whole half free true false g = row refl (rw (g .kind, g .rs-is, g .wr-is)) refl (g .size)
+  whole half false true true g = row refl refl refl (g .size)
+  whole half false false rs g = row refl refl refl (g .size)
+  whole half true true true g = row refl (rw (g .kind, g .rs-is, g .wr-is)) (rw (g .kind, g .rs-is, g .wr-is)) (g .size)
+  whole half true false true g = row refl (rw (g .kind, g .wr-is)) (rw (g .kind, g .rs-is, g .wr-is)) (g .size)
+  whole half true false false g = code true half g (eqb (dataOf log) 0)
+
+  first : (byte : ℕ) (free wr rs : Bool) → Good log rs wr →
+      Goes (numberBy false Empty free rs wr byte) (firstOf free rs wr) byte (at false Empty p) log
+  first byte free true false g = row refl (rw (g .kind, g .rs-is, g .wr-is)) (rw (g .rs-is, g .wr-is)) (g .size)
+  first byte false true true g = row refl refl refl (g .size)
+  first byte false false rs g = row refl refl refl (g .size)
+  first byte true true true g = row refl (rw (g .kind, g .rs-is, g .wr-is)) (rw (g .rs-is, g .wr-is)) (g .size)
+  first byte true false rs g = row refl (rw (g .kind, g .wr-is)) (rw (g .wr-is)) (g .size)
+
+  second : (r w : Bool) (nibble : ℕ) (wr rs : Bool) → Good log rs wr → let h = Waiting r w nibble in let byte = joinedOf false h (dataOf log) in
+      Goes (pick (not rs && not wr && eqb byte 0) 7 (pick (wr && not rs) 2 0)) (secondOf rs wr byte) byte (at false h p) log
+  second r w nibble true false g = row refl (rw (g .kind, g .wr-is)) refl (g .size)
+  second r w nibble true true g = row refl (rw (g .kind, g .wr-is)) (rw (g .kind, g .rs-is, g .wr-is)) (g .size)
+  second r w nibble false true g = row refl (rw (g .kind, g .wr-is)) (rw (g .kind, g .rs-is, g .wr-is)) (g .size)
+  second r w nibble false false g = code false (Waiting r w nibble) g (eqb (joinedOf false (Waiting r w nibble) (dataOf log)) 0)
+
+  torn : (h : Half) (byte : ℕ) (a b : Bool) {n : ℕ} (v : Way) → 14 ≡ recordSize log → Goes n v byte (at false h p) log →
+      Goes (pick (a || b) 4 n) (pick a Way.Torn (pick b Way.Torn v)) byte (at false h p) log
+  torn h byte true b v s g = row refl refl refl s
+  torn h byte false true v s g = row refl refl refl s
+  torn h byte false false v s g = g
+
+  goes : (eight : Bool) (half : Half) (free wr rs : Bool) → Good log rs wr →
+      let byte = joinedOf eight half (dataOf log) in
+      let none = pick eight Empty half in
+      Goes (numberBy eight none free rs wr (joinedOf eight none (dataOf log))) (wayOf eight half free rs wr byte) byte (at eight half p) log
+  goes true half free wr rs g = whole half free wr rs g
+  goes false Empty free wr rs g = first (joinedOf false Empty (dataOf log)) free wr rs g
+  goes false (Ignored r w) free wr rs g =
+      torn (Ignored r w) (joinedOf false (Ignored r w) (dataOf log)) (not (Bool·beq r rs)) (not (Bool·beq w wr)) Way.Ignored (g .size)
+      (row refl refl refl (g .size))
+  goes false (Waiting r w nibble) free wr rs g =
+      let byte = joinedOf false (Waiting r w nibble) (dataOf log) in
+      torn (Waiting r w nibble) byte (not (Bool·beq r rs)) (not (Bool·beq w wr)) (secondOf rs wr byte) (g .size)
+      (second r w nibble wr rs g)
+
+module _ (p : Panel) (log : List ℕ) where
+  transfer-row : kindOf log ≡ 1 → 14 ≡ recordSize log → RowAt (transferFor (wholeAt p) log) p log (transferred (timeOf log) (rsOf log) (rwOf log) (dataOf log) p)
+  unfolding transferred
+  transfer-row k s =
+      goes p log (p .sheet .registers .eight) (p .half) (free (timeOf log) p) (rwOf log) (rsOf log)
+      (record { kind = k; size = s; rs-is = refl; wr-is = refl })
+
+  unless-back : (b : Bool) {n size : ℕ} (r : Recorded) → size ≡ recordSize log → RowAt n p log r → RowAt (pick b 5 n) p log (pick b (recorded p say.Back 0 size) r)
+  unless-back true r s h = row p log refl refl refl s
+  unless-back false r s h = h
+
+  frame-row : (f : Frame) → Seen log f → RowAt (heardFor (wholeAt p) log) p log (answered f p)
+  frame-row f (cut u) = rw u (row p log refl refl refl refl)
+  frame-row f (bad g b) = rw (g .uncut, b) (row p log refl refl refl (g .size))
+  frame-row f (transfer g k b t) =
+      rw (g .uncut, b, k)
+      (unless-back (isBack p log) (transferred (timeOf log) (rsOf log) (rwOf log) (dataOf log) p) (g .size) (transfer-row k (g .size)))
+  frame-row f (reset g k b t) =
+      rw (g .uncut, b, k)
+      (unless-back (isBack p log) (recorded (done (timeOf log) freshSheet (p .times .reset) p) say.Taken 0 12) (g .size)
+      (row p log refl (rw k) (rw k) (g .size)))
+
+-- the number of an answer tells it
+named : (a : Answer) → answerOf (numberOf a) ≡ a
+named say.Taken = refl
+named say.Held = refl
+named say.Status = refl
+named say.Ignored = refl
+named say.Torn = refl
+named say.Back = refl
+named say.Bad = refl
+named say.Nothing = refl
+named say.Cut = refl
+named say.Unsound = refl
+
+-- a row of the table says all of a record
+row-is : {n : ℕ} {p : Panel} {log : List ℕ} (r : Recorded) → RowAt n p log r →
+    r ≡ record { panel = panelFor n p log; answer = answerOf n; byte = byteFor n (wholeAt p) log; used = usedFor n log }
+row-is {n} {p} {log} r h =
+    let a : r .answer ≡ answerOf n = sym (named (r .answer)) ∙ ap (λ (x : Paper). answerOf (x .number)) (h .paper) in
+    ap (λ x. record { panel = x; answer = r .answer; byte = r .byte; used = r .used }) (h .panel)
+    ∙ ap (λ x. record { panel = panelFor n p log; answer = x; byte = r .byte; used = r .used }) a
+    ∙ ap (λ x. record { panel = panelFor n p log; answer = answerOf n; byte = x; used = r .used }) (h .byte)
+    ∙ ap (λ x. record { panel = panelFor n p log; answer = answerOf n; byte = byteFor n (wholeAt p) log; used = x }) (h .used)
+
+-- WHAT THE ENGINE MAKES OF A RECORD, of any panel, is the row without the test of the panel
+pub answered-row : (p : Panel) (log : List ℕ) → answered (frameOf log) p ≡ rowFor p log
+unfolding rowFor
+answered-row p log = row-is (answered (frameOf log) p) (frame-row p log (frameOf log) (seen log))
+
+-- no half waits at width 8 in a sound panel
+no-half : (eight : Bool) (half : Half) → halfFits eight half ≡ true → pick eight Empty half ≡ half
+no-half true Empty f = refl
+no-half true (Ignored r w) f = absurd (false≢true f)
+no-half true (Waiting r w nibble) f = absurd (false≢true f)
+no-half false half f = refl
+
+whole-is : (p : Panel) → Sound p → wholeAt p ≡ p
+whole-is p h =
+    ap (λ x. record { sheet = p .sheet; busy = p .busy; half = x; times = p .times; last = p .last }) (no-half (p .sheet .registers .eight) (p .half) (h .half))
+
+-- so of a sound panel it is the table's
+pub row-sound : (p : Panel) (log : List ℕ) → soundPanel p ≡ true → rowFor p log ≡ recordOf p log
+unfolding rowFor recordOf
+row-sound p log e =
+    ap (λ q. rowWith q p log) (whole-is p (parts p e)) ∙ ap (λ b. rowOf (pick (not b) 10 (heardFor p log)) p log) (sym e)
+
+pub answered-sound : (p : Panel) (log : List ℕ) → soundPanel p ≡ true → answered (frameOf log) p ≡ recordOf p log
+answered-sound p log e = answered-row p log ∙ row-sound p log e
+
+-- an unsound one is refused
+pub refused-unsound : (p : Panel) (log : List ℕ) → soundPanel p ≡ false → recordOf p log ≡ recorded p say.Unsound 0 0
+unfolding recordOf
+refused-unsound p log e = ap (λ b. rowOf (pick (not b) 10 (heardFor p log)) p log) e
+
+-- one record: the answer's number, the bus byte, the panel afterwards and the bytes used are the table's
+numbered : (p : Panel) (log : List ℕ) (b : Bool) → numberOf (answerOf (pick b 10 (heardFor p log))) ≡ pick b 10 (heardFor p log)
+numbered p log true = refl
+numbered p log false = by (cutAt log) (badAt log) (isBack p log) (isReset log) (tears p log) (ignores p log) (isNone p log) (isFirst p) (isStatus log)
+  where
+    by : (a b c d e f g h i : Bool) →
+        let n : ℕ = pick a 8 (pick b 6 (pick c 5 (pick d 0 (pick e 4 (pick f 3 (pick g 7 (pick h 1 (pick i 2 0)))))))) in numberOf (answerOf n) ≡ n
+    by true b c d e f g h i = refl
+    by false true c d e f g h i = refl
+    by false false true d e f g h i = refl
+    by false false false true e f g h i = refl
+    by false false false false true f g h i = refl
+    by false false false false false true g h i = refl
+    by false false false false false false true h i = refl
+    by false false false false false false false true i = refl
+    by false false false false false false false false true = refl
+    by false false false false false false false false false = refl
+
+carries : (a : Answer) (n : ℕ) (p : Panel) (log : List ℕ) → answerOf n ≡ a → numberOf (answerOf n) ≡ n → carried a (byteFor n p log) ≡ byteFor n p log
+carries say.Taken n p log e k = refl
+carries say.Held n p log e k = refl
+carries say.Status n p log e k = refl
+carries say.Ignored n p log e k = ap (λ x. byteFor x p log) (sym (ap numberOf e) ∙ k)
+carries say.Torn n p log e k = ap (λ x. byteFor x p log) (sym (ap numberOf e) ∙ k)
+carries say.Back n p log e k = ap (λ x. byteFor x p log) (sym (ap numberOf e) ∙ k)
+carries say.Bad n p log e k = ap (λ x. byteFor x p log) (sym (ap numberOf e) ∙ k)
+carries say.Nothing n p log e k = ap (λ x. byteFor x p log) (sym (ap numberOf e) ∙ k)
+carries say.Cut n p log e k = ap (λ x. byteFor x p log) (sym (ap numberOf e) ∙ k)
+carries say.Unsound n p log e k = ap (λ x. byteFor x p log) (sym (ap numberOf e) ∙ k)
+
+pub tabled : (p : Panel) (log : List ℕ) → Tabled p log (recordOf p log)
+unfolding recordOf
+tabled p log =
+    let n = numberFor p log in
+    let k = numbered p log (not (soundPanel p)) in
+    record {
+      paper =
+          ap (λ x. record { number = x; byte = carried (answerOf n) (byteFor n p log) }) k
+          ∙ ap (λ x. record { number = n; byte = x }) (carries (answerOf n) n p log refl k);
+      byte = refl;
+      panel = refl;
+      used = refl;
+    }
+
+-- so what one record comes to is all that `record` promises
+pub records : (p : Panel) (log : List ℕ) (r : Recorded) → r ≡ recordOf p log → Records p log r
+records p log r e = record { is = e; tabled = rw e (tabled p log) }

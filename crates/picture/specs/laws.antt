@@ -1,0 +1,5 @@
+pub mod CursorLaws
+pub mod PictureLaws
+pub mod ShownLaws
+pub mod PaintLaws
+pub mod CompareLaws

@@ -1,0 +1,4 @@
+pub mod MachineLaws
+pub mod StrikingLaws
+pub mod Instances
+pub mod ToyLaws
