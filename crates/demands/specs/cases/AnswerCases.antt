@@ -3,6 +3,7 @@ use Prim.Native.Nat.{ℕ, _+_, _/_, _%_}
 use mathlib.Core.Path.{refl}
 use mathlib.Core.List.{List, [], _∷_, _++_, map}
 use lib.ListN.{replicate}
+use Rattle.log.specs.Frame.{frameOf, sizeOf}
 use Rattle.mirror.specs.declared.half.Half.the-variants.{Empty}
 use Rattle.mirror.specs.declared.panel.Panel.{Panel}
 use Rattle.demands.specs.cases.Logs.{instructAt, writeAt, statusAt, readAt, transferAt, resetAt, badRecord}
@@ -200,3 +201,21 @@ orders =
 pub answers-computed : Hold answered (taken ++ cuts ++ bads ++ controls ++ times ++ backs ++ orders)
 unfolding recording
 answers-computed = refl
+
+-- the bytes that a record takes up: its length and the length's own two, none where it is cut, whatever follows
+abbrev taking : List ℕ → ℕ
+taking bytes = sizeOf (frameOf bytes)
+
+abbrev sizes : List (List ℕ × ℕ)
+sizes =
+    (framed 12 1 transfer ++ (0xff ∷ []), 14)
+    ∷ (framed 10 2 reset ++ (0xff ∷ []), 12)
+    ∷ (framed 2 3 [] ++ (0xff ∷ []), 4)
+    ∷ (framed 64 3 (replicate 90 0), 66)
+    ∷ (framed 65 3 (replicate 90 0), 0)
+    ∷ ([], 0)
+    ∷ []
+
+pub sizes-computed : Hold taking sizes
+unfolding recording
+sizes-computed = refl
