@@ -1,5 +1,5 @@
 pub mod Machine
 pub mod Striking
-pub mod Laws
+pub mod Duties
 pub mod laws
 pub mod cases

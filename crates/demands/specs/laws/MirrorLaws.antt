@@ -22,7 +22,7 @@ use Rattle.mirror.specs.declared.half.Half.the-variants.{Empty, Ignored, Waitin
 use Rattle.mirror.specs.declared.panel.Panel.{Panel}
 use Rattle.mirror.specs.declared.record.Recorded.{Recorded}
 use Rattle.striking.specs.Machine.{goes, strikes, leaves, sorted, Machine}
-use Rattle.striking.specs.Laws.{Turn, KeeperStays, Laws}
+use Rattle.striking.specs.Duties.{Turn, KeeperStays, Laws}
 use Rattle.striking.specs.laws.Instances.{through-laws}
 use Rattle.demands.specs.Mirrors.{Reply, outOf, sortOf, settledPanel, machineOf}
 use Rattle.demands.specs.laws.EngineLaws.{engine}

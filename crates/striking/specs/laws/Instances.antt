@@ -3,7 +3,7 @@ use mathlib.Core.Bool.{Bool, true, false}
 use mathlib.Core.Path.{_≡_, refl}
 use Rattle.laws.specs.Pick.{pick}
 use Rattle.striking.specs.Machine.{Own, stays, goes, waits, Out, Machine, through}
-use Rattle.striking.specs.Laws.{ifKept, ifStruck, Follows, Turn, Laws}
+use Rattle.striking.specs.Duties.{ifKept, ifStruck, Follows, Turn, Laws}
 
 -- an event that a test decides
 pub by-test : {S E A : Type 0} {m : Machine S E A} {Beside : S → S → S → Type 0} {e : E} {k s : S} {x y : Out S A} (z : Bool) →

@@ -6,7 +6,7 @@ use Rattle.laws.specs.Pick.{pick}
 use Rattle.striking.specs.Machine.{Own, stays, goes, waits, Others, keeps, strikes, leaves, Sort, Out, Machine, Answered, answered, events, run, final}
 use Rattle.striking.specs.laws.MachineLaws.{run-events}
 use Rattle.striking.specs.Striking.{settled, remains, sortOf, keptBy, unstruck, struck, Struck}
-use Rattle.striking.specs.Laws.{ifKept, ifStruck, KeeperStays, Follows, Laws}
+use Rattle.striking.specs.Duties.{ifKept, ifStruck, KeeperStays, Follows, Laws}
 
 pick-same : {B : Type 0} (b : Bool) (x : B) → pick b x x ≡ x
 pick-same true x = refl

@@ -7,7 +7,7 @@ use mathlib.Core.List.{List, [], _∷_}
 use lib.Dec.{ltb}
 use borrow.Author.Tests.{le-ltb, ltb-false}
 use Rattle.striking.specs.Striking.{struck, Struck}
-use Rattle.striking.specs.Laws.{Turn, KeeperStays, Laws}
+use Rattle.striking.specs.Duties.{Turn, KeeperStays, Laws}
 use Rattle.striking.specs.laws.StrikingLaws.{striking}
 use Rattle.striking.specs.laws.Instances.{by-test}
 use Rattle.striking.specs.cases.Toy.{Gathered, none, one, two, Toy, toy, fresh, Event, digit, put, look, release, Answer, held, back, dropped, taken, seen, step, sort, machine}
