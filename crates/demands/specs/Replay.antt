@@ -50,20 +50,20 @@ joinedWith (held high) bus = high / 16 % 16 * 16 + bus / 16
 
 -- the entry of a transfer with its byte; a status read is none
 abbrev pub entryOf : Bool → Bool → ℕ → List Entry
-entryOf rs wr byte = pick wr (pick rs (read ∷ []) []) (pick rs (write byte ∷ []) (instruct byte ∷ []))
+entryOf rs reads byte = pick reads (pick rs (read ∷ []) []) (pick rs (write byte ∷ []) (instruct byte ∷ []))
 
 -- the entry of a record, given the first half before it
 abbrev pub entryAt : First → Frame → List Entry
 entryAt first frame.Cut = []
 entryAt first (frame.Bad size) = []
 entryAt first (frame.Reset time) = reset ∷ []
-entryAt first (frame.Transfer time rs wr bus) = entryOf rs wr (joinedWith first bus)
+entryAt first (frame.Transfer time rs reads bus) = entryOf rs reads (joinedWith first bus)
 
 abbrev pub busOf : Frame → ℕ
 busOf frame.Cut = 0
 busOf (frame.Bad size) = 0
 busOf (frame.Reset time) = 0
-busOf (frame.Transfer time rs wr bus) = bus
+busOf (frame.Transfer time rs reads bus) = bus
 
 -- an entry is carried out where the answer is 0, taken
 abbrev pub entriesBy : Answer → First → Frame → List Entry

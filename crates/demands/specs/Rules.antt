@@ -24,9 +24,9 @@ use Rattle.demands.specs.Replay.{Entry, carriedAll, entryOf}
 
 -- whole, or two matching halves: the half that waits, if any, has the same RS and R/W
 abbrev pub matching : Half → Bool → Bool → Bool
-matching Empty rs wr = true
-matching (Ignored r w) rs wr = Bool·beq r rs && Bool·beq w wr
-matching (Waiting r w nibble) rs wr = Bool·beq r rs && Bool·beq w wr
+matching Empty rs reads = true
+matching (Ignored r w) rs reads = Bool·beq r rs && Bool·beq w reads
+matching (Waiting r w nibble) rs reads = Bool·beq r rs && Bool·beq w reads
 
 -- the chip was busy as the transfer began: for a second half, as its first half came
 abbrev pub busyAt : Half → Bool → Bool
@@ -37,9 +37,9 @@ busyAt (Waiting r w nibble) free = false
 -- DEMAND 2, THE BUSY RULE: a usable write or data read is ignored exactly when the chip was busy as it began
 abbrev pub IgnoresBusy : Mirror → Type 0
 IgnoresBusy m =
-    (p : Panel) (bytes : List ℕ) (time : ℕ) (rs wr : Bool) (bus : ℕ) →
-    soundPanel p ≡ true → frameOf bytes ≡ Transfer time rs wr bus → p .last ≤ time →
-    (rs || not wr) ≡ true → matching (p .half) rs wr ≡ true →
+    (p : Panel) (bytes : List ℕ) (time : ℕ) (rs reads : Bool) (bus : ℕ) →
+    soundPanel p ≡ true → frameOf bytes ≡ Transfer time rs reads bus → p .last ≤ time →
+    (rs || not reads) ≡ true → matching (p .half) rs reads ≡ true →
     eqb (numberOf (m p bytes .answer .answer)) 3 ≡ busyAt (p .half) (free time p)
 
 -- a transfer is complete: whole at width 8, and at width 4 the second half of a pair
@@ -50,14 +50,14 @@ complete eight (Waiting r w nibble) = true
 
 -- what a transfer has to do to the sheet: its entry where it is complete, matches and was not begun while busy, and else nothing
 abbrev pub entriesAt : Bool → Half → Bool → Bool → Bool → ℕ → List Entry
-entriesAt eight h free rs wr bus = pick (not (busyAt h free) && complete eight h && matching h rs wr) (entryOf rs wr (joinedOf eight h bus)) []
+entriesAt eight h free rs reads bus = pick (not (busyAt h free) && complete eight h && matching h rs reads) (entryOf rs reads (joinedOf eight h bus)) []
 
 -- DEMAND 2, THE STEPS: each transfer does to the sheet what the steps say, and nothing else
 abbrev pub Steps : Mirror → Type 0
 Steps m =
-    (p : Panel) (bytes : List ℕ) (time : ℕ) (rs wr : Bool) (bus : ℕ) →
-    soundPanel p ≡ true → frameOf bytes ≡ Transfer time rs wr bus → p .last ≤ time →
-    m p bytes .state .sheet ≡ carriedAll (entriesAt (p .sheet .registers .eight) (p .half) (free time p) rs wr bus) (p .sheet)
+    (p : Panel) (bytes : List ℕ) (time : ℕ) (rs reads : Bool) (bus : ℕ) →
+    soundPanel p ≡ true → frameOf bytes ≡ Transfer time rs reads bus → p .last ≤ time →
+    m p bytes .state .sheet ≡ carriedAll (entriesAt (p .sheet .registers .eight) (p .half) (free time p) rs reads bus) (p .sheet)
 
 -- what hands back counts: the type of a run
 abbrev pub Counter : Type 0

@@ -106,7 +106,7 @@ frameOf s =
 abbrev pub sizeOf : Frame → ℕ
 sizeOf Cut = 0
 sizeOf (Bad n) = n
-sizeOf (Transfer t rs wr d) = 14
+sizeOf (Transfer t rs reads d) = 14
 sizeOf (Reset t) = 12
 
 -- the size that the length tells: 0 where it is not there yet or lies outside

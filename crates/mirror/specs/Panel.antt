@@ -23,8 +23,8 @@ freshPanel reset long short =
 -- a waiting half lies in range: none waits at width 8, no status half is marked ignored, a nibble is at most 15
 abbrev pub halfFits : Bool → Half → Bool
 halfFits eight Empty = true
-halfFits eight (Ignored rs wr) = pick eight false (pick rs true (not wr))
-halfFits eight (Waiting rs wr nibble) = pick eight false (ltb nibble 16)
+halfFits eight (Ignored rs reads) = pick eight false (pick rs true (not reads))
+halfFits eight (Waiting rs reads nibble) = pick eight false (ltb nibble 16)
 
 -- times are below 2^48
 abbrev pub timeEnd : ℕ

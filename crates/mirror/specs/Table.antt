@@ -21,8 +21,8 @@ use Rattle.mirror.specs.declared.record.Recorded.{Recorded}
 -- a half waits
 abbrev pub waits : Half → Bool
 waits Empty = false
-waits (Ignored rs wr) = true
-waits (Waiting rs wr nibble) = true
+waits (Ignored rs reads) = true
+waits (Waiting rs reads nibble) = true
 
 -- the first half of a pair: at width 4, where none waits
 abbrev pub isFirst : Panel → Bool
@@ -38,9 +38,9 @@ isBack p log = ltb (timeOf log) (p .last)
 
 -- torn: the second half differs from the first in RS or R/W
 abbrev pub differs : Half → Bool → Bool → Bool
-differs Empty rs wr = false
-differs (Ignored r w) rs wr = not (Bool·beq r rs) || not (Bool·beq w wr)
-differs (Waiting r w nibble) rs wr = not (Bool·beq r rs) || not (Bool·beq w wr)
+differs Empty rs reads = false
+differs (Ignored r w) rs reads = not (Bool·beq r rs) || not (Bool·beq w reads)
+differs (Waiting r w nibble) rs reads = not (Bool·beq r rs) || not (Bool·beq w reads)
 
 abbrev pub tears : Panel → List ℕ → Bool
 tears p log = differs (p .half) (rsOf log) (rwOf log)
@@ -52,8 +52,8 @@ isStatus log = rwOf log && not (rsOf log)
 -- ignored: the chip was busy, as decided at the first half for the pair; a status read is never ignored
 abbrev pub busyAt : Half → Bool → Bool
 busyAt Empty busy = busy
-busyAt (Ignored rs wr) busy = true
-busyAt (Waiting rs wr nibble) busy = false
+busyAt (Ignored rs reads) busy = true
+busyAt (Waiting rs reads nibble) busy = false
 
 abbrev pub ignores : Panel → List ℕ → Bool
 ignores p log = busyAt (p .half) (not (isStatus log) && not (free (timeOf log) p))

@@ -39,8 +39,8 @@ high b = b / 16 * 16
 -- the nibble that waits
 abbrev pub nibbleOf : Half → ℕ
 nibbleOf Empty = 0
-nibbleOf (Ignored rs wr) = 0
-nibbleOf (Waiting rs wr nibble) = nibble % 16
+nibbleOf (Ignored rs reads) = 0
+nibbleOf (Waiting rs reads nibble) = nibble % 16
 
 -- at width 8 the data byte is used in full; at width 4 the first transfer gives the high half, the second the low half
 abbrev pub joinedOf : Bool → Half → ℕ → ℕ

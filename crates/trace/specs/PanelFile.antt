@@ -49,7 +49,7 @@ registersIn b = record {
 
 -- 80, half: 0 none, 1 ignored, 2 waiting; 81, 82, 83, its RS, R/W and nibble
 abbrev pub halfIn : ℕ → Bool → Bool → ℕ → Half
-halfIn kind rs wr nibble = pick (eqb kind 1) (Ignored rs wr) (pick (eqb kind 2) (Waiting rs wr nibble) Empty)
+halfIn kind rs reads nibble = pick (eqb kind 1) (Ignored rs reads) (pick (eqb kind 2) (Waiting rs reads nibble) Empty)
 
 -- 58 to 63, three times of two bytes: reset, long, short; 64 to 71, busy end; 72 to 79, last time
 abbrev pub panelIn : List ℕ → Panel
@@ -71,9 +71,9 @@ bitsFit b =
 
 -- RS, R/W and nibble 0 where none waits, the nibble 0 where it is ignored
 abbrev pub halfFits : ℕ → ℕ → ℕ → ℕ → Bool
-halfFits kind rs wr nibble =
-    pick (eqb kind 0) (eqb rs 0 && eqb wr 0 && eqb nibble 0)
-    (pick (eqb kind 1) (ltb rs 2 && ltb wr 2 && eqb nibble 0) (pick (eqb kind 2) (ltb rs 2 && ltb wr 2) false))
+halfFits kind rs reads nibble =
+    pick (eqb kind 0) (eqb rs 0 && eqb reads 0 && eqb nibble 0)
+    (pick (eqb kind 1) (ltb rs 2 && ltb reads 2 && eqb nibble 0) (pick (eqb kind 2) (ltb rs 2 && ltb reads 2) false))
 
 abbrev pub fitsIn : List ℕ → Bool
 fitsIn b = bitsFit b && halfFits (byteIn b 80) (byteIn b 81) (byteIn b 82) (byteIn b 83)

@@ -94,8 +94,8 @@ not-same-clock h = let e : _≡_ {A = ℕ} 0 5 = h (statusAt 5) in omega arith
 -- and the first half of an ignored pair waits
 abbrev halves : Half → ℕ
 halves Empty = 0
-halves (Ignored rs wr) = 1
-halves (Waiting rs wr nibble) = 1
+halves (Ignored rs reads) = 1
+halves (Waiting rs reads nibble) = 1
 
 pub not-same-half : ¬ ((log : List ℕ) → panelBy ours casePanel (struckLog ours casePanel log) .half ≡ panelBy ours casePanel log .half)
 unfolding answering

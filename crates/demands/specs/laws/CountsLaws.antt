@@ -91,20 +91,20 @@ counts p log h = each-count ours p log (of-run p log h)
 abbrev Counted : Answer → Type 0
 Counted a = ltb (numberOf a) 8 ≡ true
 
-went-counted : (v : Way) (time : ℕ) (rs wr : Bool) (bus byte : ℕ) (p : Panel) → Counted (went v time rs wr bus byte p .answer)
-went-counted Way.Torn time rs wr bus byte p = refl
-went-counted Way.Ignored time rs wr bus byte p = refl
-went-counted Way.Missed time rs wr bus byte p = refl
-went-counted Way.Nothing time rs wr bus byte p = refl
-went-counted Way.HoldStatus time rs wr bus byte p = refl
-went-counted Way.HoldRead time rs wr bus byte p = refl
-went-counted Way.HoldWrite time rs wr bus byte p = refl
-went-counted Way.Status time rs wr bus byte p = refl
-went-counted Way.StatusEnd time rs wr bus byte p = refl
-went-counted Way.Read time rs wr bus byte p = refl
-went-counted Way.ReadEnd time rs wr bus byte p = refl
-went-counted Way.Write time rs wr bus byte p = refl
-went-counted Way.Obey time rs wr bus byte p = refl
+went-counted : (v : Way) (time : ℕ) (rs reads : Bool) (bus byte : ℕ) (p : Panel) → Counted (went v time rs reads bus byte p .answer)
+went-counted Way.Torn time rs reads bus byte p = refl
+went-counted Way.Ignored time rs reads bus byte p = refl
+went-counted Way.Missed time rs reads bus byte p = refl
+went-counted Way.Nothing time rs reads bus byte p = refl
+went-counted Way.HoldStatus time rs reads bus byte p = refl
+went-counted Way.HoldRead time rs reads bus byte p = refl
+went-counted Way.HoldWrite time rs reads bus byte p = refl
+went-counted Way.Status time rs reads bus byte p = refl
+went-counted Way.StatusEnd time rs reads bus byte p = refl
+went-counted Way.Read time rs reads bus byte p = refl
+went-counted Way.ReadEnd time rs reads bus byte p = refl
+went-counted Way.Write time rs reads bus byte p = refl
+went-counted Way.Obey time rs reads bus byte p = refl
 
 pick-counted : (z : Bool) (x y : Recorded) → Counted (x .answer) → Counted (y .answer) → Counted (pick z x y .answer)
 pick-counted true x y h k = h
@@ -115,10 +115,10 @@ unfolding transferred
 answered-counted frame.Cut p r = absurd r
 answered-counted (frame.Bad size) p r = refl
 answered-counted (frame.Reset time) p r = pick-counted (ltb time (p .last)) _ _ refl refl
-answered-counted (frame.Transfer time rs wr bus) p r =
+answered-counted (frame.Transfer time rs reads bus) p r =
     let byte = joinedOf (p .sheet .registers .eight) (p .half) bus in
-    pick-counted (ltb time (p .last)) _ (transferred time rs wr bus p) refl
-    (went-counted (wayOf (p .sheet .registers .eight) (p .half) (free time p) rs wr byte) time rs wr bus byte p)
+    pick-counted (ltb time (p .last)) _ (transferred time rs reads bus p) refl
+    (went-counted (wayOf (p .sheet .registers .eight) (p .half) (free time p) rs reads byte) time rs reads bus byte p)
 
 uncut-record : (s : List ℕ) → cutAt s ≡ false → IsRecord (frameOf s)
 unfolding frameOf

@@ -36,8 +36,8 @@ parsed = record { step = λ p f. outOf (answered f p); sort = λ f r. sortOf (r 
 -- the half that may yet be struck: an ignored one is struck already
 abbrev live : Half → Half
 live Empty = Empty
-live (Ignored rs wr) = Empty
-live (Waiting rs wr nibble) = Waiting rs wr nibble
+live (Ignored rs reads) = Empty
+live (Waiting rs reads nibble) = Waiting rs reads nibble
 
 -- with the waiting half kept or without it, and the clock perhaps behind
 data Beside : Panel → Panel → Panel → Type 0 where
@@ -45,46 +45,46 @@ data Beside : Panel → Panel → Panel → Type 0 where
       Beside p (holding l (live (p .half)) p) (holding l₁ Empty p)
 
 -- no way of a transfer looks at the last time
-went-clockless : (v : Way) (time : ℕ) (rs wr : Bool) (bus byte : ℕ) (p : Panel) (l : ℕ) →
-    went v time rs wr bus byte (holding l (p .half) p) ≡ went v time rs wr bus byte p
-went-clockless Way.Torn time rs wr bus byte p l = refl
-went-clockless Way.Ignored time rs wr bus byte p l = refl
-went-clockless Way.Missed time rs wr bus byte p l = refl
-went-clockless Way.Nothing time rs wr bus byte p l = refl
-went-clockless Way.HoldStatus time rs wr bus byte p l = refl
-went-clockless Way.HoldRead time rs wr bus byte p l = refl
-went-clockless Way.HoldWrite time rs wr bus byte p l = refl
-went-clockless Way.Status time rs wr bus byte p l = refl
-went-clockless Way.StatusEnd time rs wr bus byte p l = refl
-went-clockless Way.Read time rs wr bus byte p l = refl
-went-clockless Way.ReadEnd time rs wr bus byte p l = refl
-went-clockless Way.Write time rs wr bus byte p l = refl
-went-clockless Way.Obey time rs wr bus byte p l = refl
+went-clockless : (v : Way) (time : ℕ) (rs reads : Bool) (bus byte : ℕ) (p : Panel) (l : ℕ) →
+    went v time rs reads bus byte (holding l (p .half) p) ≡ went v time rs reads bus byte p
+went-clockless Way.Torn time rs reads bus byte p l = refl
+went-clockless Way.Ignored time rs reads bus byte p l = refl
+went-clockless Way.Missed time rs reads bus byte p l = refl
+went-clockless Way.Nothing time rs reads bus byte p l = refl
+went-clockless Way.HoldStatus time rs reads bus byte p l = refl
+went-clockless Way.HoldRead time rs reads bus byte p l = refl
+went-clockless Way.HoldWrite time rs reads bus byte p l = refl
+went-clockless Way.Status time rs reads bus byte p l = refl
+went-clockless Way.StatusEnd time rs reads bus byte p l = refl
+went-clockless Way.Read time rs reads bus byte p l = refl
+went-clockless Way.ReadEnd time rs reads bus byte p l = refl
+went-clockless Way.Write time rs reads bus byte p l = refl
+went-clockless Way.Obey time rs reads bus byte p l = refl
 
-clockless : (time : ℕ) (rs wr : Bool) (bus : ℕ) (p : Panel) (l : ℕ) → transferred time rs wr bus (holding l (p .half) p) ≡ transferred time rs wr bus p
+clockless : (time : ℕ) (rs reads : Bool) (bus : ℕ) (p : Panel) (l : ℕ) → transferred time rs reads bus (holding l (p .half) p) ≡ transferred time rs reads bus p
 unfolding transferred
-clockless time rs wr bus p l =
+clockless time rs reads bus p l =
     let eight = p .sheet .registers .eight in
     let byte = joinedOf eight (p .half) bus in
-    went-clockless (wayOf eight (p .half) (free time p) rs wr byte) time rs wr bus byte p l
+    went-clockless (wayOf eight (p .half) (free time p) rs reads byte) time rs reads bus byte p l
 
 -- so with the same half and an earlier clock a transfer is answered the same
-answered-as : (p : Panel) (h : Half) (l time : ℕ) (rs wr : Bool) (bus : ℕ) → h ≡ p .half → l ≤ time →
-    answered (frame.Transfer time rs wr bus) (holding l h p) ≡ transferred time rs wr bus p
-answered-as p h l time rs wr bus e i =
-    ap (λ x. pick (ltb time l) (recorded (holding l x p) say.Back 0 14) (transferred time rs wr bus (holding l x p))) e
-    ∙ ap (λ z. pick z (recorded (holding l (p .half) p) say.Back 0 14) (transferred time rs wr bus (holding l (p .half) p))) (le-ltb time l i)
-    ∙ clockless time rs wr bus p l
+answered-as : (p : Panel) (h : Half) (l time : ℕ) (rs reads : Bool) (bus : ℕ) → h ≡ p .half → l ≤ time →
+    answered (frame.Transfer time rs reads bus) (holding l h p) ≡ transferred time rs reads bus p
+answered-as p h l time rs reads bus e i =
+    ap (λ x. pick (ltb time l) (recorded (holding l x p) say.Back 0 14) (transferred time rs reads bus (holding l x p))) e
+    ∙ ap (λ z. pick z (recorded (holding l (p .half) p) say.Back 0 14) (transferred time rs reads bus (holding l (p .half) p))) (le-ltb time l i)
+    ∙ clockless time rs reads bus p l
 
 reset-as : (p : Panel) (h : Half) (l time : ℕ) → l ≤ time →
     answered (frame.Reset time) (holding l h p) ≡ recorded (done time freshSheet (p .times .reset) p) say.Taken 0 12
 reset-as p h l time i = rw (le-ltb time l i) refl
 
-live-fits : (eight : Bool) (h : Half) (wr : Bool) → Fits eight h wr → live h ≡ h
-live-fits true h wr f = ap live f ∙ sym f
-live-fits false Empty wr f = absurd f
-live-fits false (Ignored a b) wr f = absurd f
-live-fits false (Waiting a b nibble) wr f = refl
+live-fits : (eight : Bool) (h : Half) (reads : Bool) → Fits eight h reads → live h ≡ h
+live-fits true h reads f = ap live f ∙ sym f
+live-fits false Empty reads f = absurd f
+live-fits false (Ignored a b) reads f = absurd f
+live-fits false (Waiting a b nibble) reads f = refl
 
 -- a record carried out: all three are then one
 taken-turn : (p k s : Panel) (f : Frame) (time : ℕ) (sheet : Sheet) (span byte used : ℕ) →
@@ -107,26 +107,26 @@ stands-sort cut = refl
 no-width : {eight : Bool} (h : Half) → eight ≡ false → Narrow eight h
 no-width h e z = absurd (true≢false (sym z ∙ e))
 
-transfer-turn : (p : Panel) (l l₁ time : ℕ) (rs wr : Bool) (bus : ℕ) (r : Recorded) → l ≤ p .last → l₁ ≤ p .last → p .last ≤ time →
-    transferred time rs wr bus p ≡ r → Goes p time rs wr bus (p .sheet .registers .eight) (p .half) r →
-    Turn parsed Beside (frame.Transfer time rs wr bus) (outOf r) (holding l (live (p .half)) p) (holding l₁ Empty p)
-transfer-turn p l l₁ time rs wr bus r x y z q (acts e span byte i s f) =
-    taken-turn p (holding l (live (p .half)) p) (holding l₁ Empty p) (frame.Transfer time rs wr bus) time (carried e (p .sheet)) span byte 14
-    (answered-as p (live (p .half)) l time rs wr bus (live-fits (p .sheet .registers .eight) (p .half) wr f) (omega arith) ∙ q)
-transfer-turn p l l₁ time rs wr bus r x y z q (drops a byte d) =
+transfer-turn : (p : Panel) (l l₁ time : ℕ) (rs reads : Bool) (bus : ℕ) (r : Recorded) → l ≤ p .last → l₁ ≤ p .last → p .last ≤ time →
+    transferred time rs reads bus p ≡ r → Goes p time rs reads bus (p .sheet .registers .eight) (p .half) r →
+    Turn parsed Beside (frame.Transfer time rs reads bus) (outOf r) (holding l (live (p .half)) p) (holding l₁ Empty p)
+transfer-turn p l l₁ time rs reads bus r x y z q (acts e span byte i s f) =
+    taken-turn p (holding l (live (p .half)) p) (holding l₁ Empty p) (frame.Transfer time rs reads bus) time (carried e (p .sheet)) span byte 14
+    (answered-as p (live (p .half)) l time rs reads bus (live-fits (p .sheet .registers .eight) (p .half) reads f) (omega arith) ∙ q)
+transfer-turn p l l₁ time rs reads bus r x y z q (drops a byte d) =
     record { follows = rw (drops-sort d) (beside (holding time Empty p) l₁ l₁ (omega arith) (omega arith) (λ e. refl)) }
-transfer-turn p l l₁ time rs wr bus r x y z q (misses n w) =
-    record { follows = beside (holding time (Ignored rs wr) p) l₁ l₁ (omega arith) (omega arith) (no-width (Ignored rs wr) w) }
-transfer-turn p l l₁ time rs wr bus r x y z q (begins nibble byte n w v) =
-    let e = answered-as p (live (p .half)) l time rs wr bus (ap live n ∙ sym n) (omega arith) ∙ q in
-    record { follows = rw e (refl, beside (holding time (Waiting rs wr nibble) p) time l₁ (le-refl time) (omega arith) (no-width (Waiting rs wr nibble) w)) }
+transfer-turn p l l₁ time rs reads bus r x y z q (misses n w) =
+    record { follows = beside (holding time (Ignored rs reads) p) l₁ l₁ (omega arith) (omega arith) (no-width (Ignored rs reads) w) }
+transfer-turn p l l₁ time rs reads bus r x y z q (begins nibble byte n w v) =
+    let e = answered-as p (live (p .half)) l time rs reads bus (ap live n ∙ sym n) (omega arith) ∙ q in
+    record { follows = rw e (refl, beside (holding time (Waiting rs reads nibble) p) time l₁ (le-refl time) (omega arith) (no-width (Waiting rs reads nibble) w)) }
 
 turn : (w k s : Panel) (f : Frame) (r : Recorded) → Beside w k s → Came w f r → Turn parsed Beside f (outOf r) k s
 turn w k s f r (beside p l l₁ x y n) (stands g a used d) = record { follows = rw (stands-sort d) (beside p l l₁ x y n) }
 turn w k s f r (beside p l l₁ x y n) (restarts time z) =
     taken-turn p (holding l (live (p .half)) p) (holding l₁ Empty p) (frame.Reset time) time freshSheet (p .times .reset) 0 12
     (reset-as p (live (p .half)) l time (omega arith))
-turn w k s f r (beside p l l₁ x y n) (transfers time rs wr bus o z q g) = transfer-turn p l l₁ time rs wr bus o x y z q g
+turn w k s f r (beside p l l₁ x y n) (transfers time rs reads bus o z q g) = transfer-turn p l l₁ time rs reads bus o x y z q g
 
 beside-narrow : (w k s : Panel) → Beside w k s → Narrow (w .sheet .registers .eight) (w .half)
 beside-narrow w k s (beside p l l₁ x y n) = n

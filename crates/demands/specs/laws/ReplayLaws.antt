@@ -30,20 +30,20 @@ use Rattle.demands.specs.laws.Ways.{status, ignored, torn, nothing, back
 -- the half that waits in the panel is the one read off the answers
 data Agree : First → Bool → Half → Type 0 where
   no-half : (eight : Bool) → Agree none eight Empty
-  missed : (rs wr : Bool) → Agree none false (Ignored rs wr)
-  one : (rs wr : Bool) (bus nibble : ℕ) → (wr ≡ false → nibble ≡ bus / 16) → Agree (held bus) false (Waiting rs wr nibble)
+  missed : (rs reads : Bool) → Agree none false (Ignored rs reads)
+  one : (rs reads : Bool) (bus nibble : ℕ) → (reads ≡ false → nibble ≡ bus / 16) → Agree (held bus) false (Waiting rs reads nibble)
 
 agree-narrow : (first : First) (eight : Bool) (h : Half) → Agree first eight h → Narrow eight h
 agree-narrow first eight h (no-half z) e = refl
-agree-narrow first eight h (missed rs wr) e = absurd (true≢false (sym e))
-agree-narrow first eight h (one rs wr bus nibble g) e = absurd (true≢false (sym e))
+agree-narrow first eight h (missed rs reads) e = absurd (true≢false (sym e))
+agree-narrow first eight h (one rs reads bus nibble g) e = absurd (true≢false (sym e))
 
 -- so a transfer's entry, read off the log, is the one carried out
-entry-same : (first : First) (eight : Bool) (h : Half) (rs wr : Bool) (bus : ℕ) → Agree first eight h → Fits eight h wr →
-    entryOf rs wr (joinedWith first bus) ≡ entryOf rs wr (joinedOf eight h bus)
-entry-same first eight h rs wr bus (no-half true) f = refl
-entry-same first eight h rs wr bus (no-half false) f = absurd f
-entry-same first eight h rs wr bus (missed r w) f = absurd f
+entry-same : (first : First) (eight : Bool) (h : Half) (rs reads : Bool) (bus : ℕ) → Agree first eight h → Fits eight h reads →
+    entryOf rs reads (joinedWith first bus) ≡ entryOf rs reads (joinedOf eight h bus)
+entry-same first eight h rs reads bus (no-half true) f = refl
+entry-same first eight h rs reads bus (no-half false) f = absurd f
+entry-same first eight h rs reads bus (missed r w) f = absurd f
 entry-same first eight h rs true bus (one r w high nibble g) f = refl
 entry-same first eight h rs false bus (one r w high nibble g) f = ap (λ n. entryOf rs false (n % 16 * 16 + bus / 16)) (sym (g f))
 
@@ -53,30 +53,30 @@ record Keeps (first : First) (p : Panel) (f : Frame) (r : Recorded) : Type 0 whe
   agree : Agree (firstAfter (r .answer) first f) (r .panel .sheet .registers .eight) (r .panel .half)
   something : AllSomething (entriesBy (r .answer) first f)
 
-transfer-keeps : (first : First) (p : Panel) (time : ℕ) (rs wr : Bool) (bus : ℕ) (eight : Bool) (h : Half) (r : Recorded) →
-    eight ≡ p .sheet .registers .eight → Agree first eight h → Goes p time rs wr bus eight h r → Keeps first p (frame.Transfer time rs wr bus) r
-transfer-keeps first p time rs wr bus eight h r q g (acts e span byte i s f) =
-    let same = entry-same first eight h rs wr bus g f ∙ i in
+transfer-keeps : (first : First) (p : Panel) (time : ℕ) (rs reads : Bool) (bus : ℕ) (eight : Bool) (h : Half) (r : Recorded) →
+    eight ≡ p .sheet .registers .eight → Agree first eight h → Goes p time rs reads bus eight h r → Keeps first p (frame.Transfer time rs reads bus) r
+transfer-keeps first p time rs reads bus eight h r q g (acts e span byte i s f) =
+    let same = entry-same first eight h rs reads bus g f ∙ i in
     record { sheet = rw same refl; agree = no-half (carried e (p .sheet) .registers .eight); something = rw same (s, tt) }
-transfer-keeps first p time rs wr bus eight h r q g (drops a byte status) =
+transfer-keeps first p time rs reads bus eight h r q g (drops a byte status) =
     record { sheet = refl; agree = no-half (p .sheet .registers .eight); something = tt }
-transfer-keeps first p time rs wr bus eight h r q g (drops a byte ignored) =
+transfer-keeps first p time rs reads bus eight h r q g (drops a byte ignored) =
     record { sheet = refl; agree = no-half (p .sheet .registers .eight); something = tt }
-transfer-keeps first p time rs wr bus eight h r q g (drops a byte torn) =
+transfer-keeps first p time rs reads bus eight h r q g (drops a byte torn) =
     record { sheet = refl; agree = no-half (p .sheet .registers .eight); something = tt }
-transfer-keeps first p time rs wr bus eight h r q g (drops a byte nothing) =
+transfer-keeps first p time rs reads bus eight h r q g (drops a byte nothing) =
     record { sheet = refl; agree = no-half (p .sheet .registers .eight); something = tt }
-transfer-keeps first p time rs wr bus eight h r q g (misses n w) = record { sheet = refl; agree = rw (← q, w) (missed rs wr); something = tt }
-transfer-keeps first p time rs wr bus eight h r q g (begins nibble byte n w v) =
-    record { sheet = refl; agree = rw (← q, w) (one rs wr bus nibble v); something = tt }
+transfer-keeps first p time rs reads bus eight h r q g (misses n w) = record { sheet = refl; agree = rw (← q, w) (missed rs reads); something = tt }
+transfer-keeps first p time rs reads bus eight h r q g (begins nibble byte n w v) =
+    record { sheet = refl; agree = rw (← q, w) (one rs reads bus nibble v); something = tt }
 
 keeps : (first : First) (p : Panel) (f : Frame) (r : Recorded) → Agree first (p .sheet .registers .eight) (p .half) → Came p f r → Keeps first p f r
 keeps first p f r g (stands x a used back) = record { sheet = refl; agree = g; something = tt }
 keeps first p f r g (stands x a used bad) = record { sheet = refl; agree = g; something = tt }
 keeps first p f r g (stands x a used cut) = record { sheet = refl; agree = g; something = tt }
 keeps first p f r g (restarts time l) = record { sheet = refl; agree = no-half true; something = (tt, tt) }
-keeps first p f r g (transfers time rs wr bus x l i t) =
-    transfer-keeps first p time rs wr bus (p .sheet .registers .eight) (p .half) x refl g t
+keeps first p f r g (transfers time rs reads bus x l i t) =
+    transfer-keeps first p time rs reads bus (p .sheet .registers .eight) (p .half) x refl g t
 
 carried-append : (a b : List Entry) (s : Sheet) → carriedAll (a ++ b) s ≡ carriedAll b (carriedAll a s)
 carried-append [] b s = refl

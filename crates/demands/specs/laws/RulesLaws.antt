@@ -30,8 +30,8 @@ use Rattle.demands.specs.laws.Ways.{Narrow}
 -- no half waits at width 8 in a sound panel
 fits-narrow : (eight : Bool) (h : Half) → halfFits eight h ≡ true → Narrow eight h
 fits-narrow true Empty f e = refl
-fits-narrow true (Ignored rs wr) f e = absurd (false≢true f)
-fits-narrow true (Waiting rs wr nibble) f e = absurd (false≢true f)
+fits-narrow true (Ignored rs reads) f e = absurd (false≢true f)
+fits-narrow true (Waiting rs reads nibble) f e = absurd (false≢true f)
 fits-narrow false h f e = absurd (false≢true e)
 
 sound-narrow : (p : Panel) → soundPanel p ≡ true → Narrow (p .sheet .registers .eight) (p .half)
@@ -45,10 +45,10 @@ sound-narrow p e =
     by false f rest e = absurd (false≢true e)
 
 -- a record that is not back in time
-in-time : (p : Panel) (bytes : List ℕ) (time : ℕ) (rs wr : Bool) (bus : ℕ) → frameOf bytes ≡ Transfer time rs wr bus → p .last ≤ time →
-    answered (frameOf bytes) p ≡ transferred time rs wr bus p
-in-time p bytes time rs wr bus f l =
-    ap (λ x. answered x p) f ∙ ap (λ z. pick z (recorded p say.Back 0 14) (transferred time rs wr bus p)) (le-ltb time (p .last) l)
+in-time : (p : Panel) (bytes : List ℕ) (time : ℕ) (rs reads : Bool) (bus : ℕ) → frameOf bytes ≡ Transfer time rs reads bus → p .last ≤ time →
+    answered (frameOf bytes) p ≡ transferred time rs reads bus p
+in-time p bytes time rs reads bus f l =
+    ap (λ x. answered x p) f ∙ ap (λ z. pick z (recorded p say.Back 0 14) (transferred time rs reads bus p)) (le-ltb time (p .last) l)
 
 module _ (time : ℕ) (r w : Bool) (bus byte : ℕ) (p : Panel) where
   -- whether a way comes to ignored
@@ -64,21 +64,21 @@ module _ (time : ℕ) (r w : Bool) (bus byte : ℕ) (p : Panel) where
       by true = refl
       by false = refl
 
-  whole-ignores : (z rs wr : Bool) (b : ℕ) → (rs || not wr) ≡ true → ignores (wholeOf z rs wr b) ≡ not z
+  whole-ignores : (z rs reads : Bool) (b : ℕ) → (rs || not reads) ≡ true → ignores (wholeOf z rs reads b) ≡ not z
   whole-ignores true rs false b u = finish-heard rs b
   whole-ignores false rs false b u = refl
   whole-ignores true true true b u = refl
   whole-ignores false true true b u = refl
   whole-ignores z false true b u = absurd (false≢true u)
 
-  first-ignores : (z rs wr : Bool) → (rs || not wr) ≡ true → ignores (firstOf z rs wr) ≡ not z
+  first-ignores : (z rs reads : Bool) → (rs || not reads) ≡ true → ignores (firstOf z rs reads) ≡ not z
   first-ignores true rs false u = refl
   first-ignores false rs false u = refl
   first-ignores true true true u = refl
   first-ignores false true true u = refl
   first-ignores z false true u = absurd (false≢true u)
 
-  second-heard : (rs wr : Bool) (b : ℕ) → ignores (secondOf rs wr b) ≡ false
+  second-heard : (rs reads : Bool) (b : ℕ) → ignores (secondOf rs reads b) ≡ false
   second-heard rs false b = finish-heard rs b
   second-heard true true b = refl
   second-heard false true b = refl
@@ -89,22 +89,22 @@ module _ (time : ℕ) (r w : Bool) (bus byte : ℕ) (p : Panel) where
   untorn true false v e = absurd (false≢true e)
   untorn false b v e = absurd (false≢true e)
 
-  way-ignores : (eight : Bool) (h : Half) (z rs wr : Bool) (b : ℕ) → Narrow eight h → (rs || not wr) ≡ true → matching h rs wr ≡ true →
-      ignores (wayOf eight h z rs wr b) ≡ busyAt h z
-  way-ignores true h z rs wr b n u m = whole-ignores z rs wr b u ∙ sym (ap (λ x. busyAt x z) (n refl))
-  way-ignores false Empty z rs wr b n u m = first-ignores z rs wr u
-  way-ignores false (Ignored r₁ w₁) z rs wr b n u m = untorn (Bool·beq r₁ rs) (Bool·beq w₁ wr) Way.Ignored m
-  way-ignores false (Waiting r₁ w₁ nibble) z rs wr b n u m =
-      untorn (Bool·beq r₁ rs) (Bool·beq w₁ wr) (secondOf rs wr b) m ∙ second-heard rs wr b
+  way-ignores : (eight : Bool) (h : Half) (z rs reads : Bool) (b : ℕ) → Narrow eight h → (rs || not reads) ≡ true → matching h rs reads ≡ true →
+      ignores (wayOf eight h z rs reads b) ≡ busyAt h z
+  way-ignores true h z rs reads b n u m = whole-ignores z rs reads b u ∙ sym (ap (λ x. busyAt x z) (n refl))
+  way-ignores false Empty z rs reads b n u m = first-ignores z rs reads u
+  way-ignores false (Ignored r₁ w₁) z rs reads b n u m = untorn (Bool·beq r₁ rs) (Bool·beq w₁ reads) Way.Ignored m
+  way-ignores false (Waiting r₁ w₁ nibble) z rs reads b n u m =
+      untorn (Bool·beq r₁ rs) (Bool·beq w₁ reads) (secondOf rs reads b) m ∙ second-heard rs reads b
 
 -- DEMAND 2, THE BUSY RULE
 pub ignores-busy : IgnoresBusy ours
 unfolding transferred
-ignores-busy p bytes time rs wr bus s f l u m =
+ignores-busy p bytes time rs reads bus s f l u m =
     let eight = p .sheet .registers .eight in
     let byte = joinedOf eight (p .half) bus in
-    ap (λ (r : Recorded). eqb (numberOf (r .answer)) 3) (sym (answered-sound p bytes s) ∙ in-time p bytes time rs wr bus f l)
-    ∙ way-ignores time rs wr bus byte p eight (p .half) (free time p) rs wr byte (sound-narrow p s) u m
+    ap (λ (r : Recorded). eqb (numberOf (r .answer)) 3) (sym (answered-sound p bytes s) ∙ in-time p bytes time rs reads bus f l)
+    ∙ way-ignores time rs reads bus byte p eight (p .half) (free time p) rs reads byte (sound-narrow p s) u m
 
 module _ (time : ℕ) (r w : Bool) (bus byte : ℕ) (p : Panel) where
   -- the sheet that a way comes to
@@ -119,7 +119,7 @@ module _ (time : ℕ) (r w : Bool) (bus byte : ℕ) (p : Panel) where
       by true e = sym (ap (λ n. obeyed n (p .sheet)) (eqb-true byte 0 e))
       by false e = refl
 
-  whole-sheet : (z rs wr : Bool) → sheetBy (wholeOf z rs wr byte) ≡ carriedAll (entriesAt true Empty z rs wr byte) (p .sheet)
+  whole-sheet : (z rs reads : Bool) → sheetBy (wholeOf z rs reads byte) ≡ carriedAll (entriesAt true Empty z rs reads byte) (p .sheet)
   whole-sheet true rs false = finish-sheet rs
   whole-sheet true true true = refl
   whole-sheet true false true = refl
@@ -127,7 +127,7 @@ module _ (time : ℕ) (r w : Bool) (bus byte : ℕ) (p : Panel) where
   whole-sheet false true true = refl
   whole-sheet false false true = refl
 
-  first-sheet : (z rs wr : Bool) → sheetBy (firstOf z rs wr) ≡ carriedAll (entriesAt false Empty z rs wr bus) (p .sheet)
+  first-sheet : (z rs reads : Bool) → sheetBy (firstOf z rs reads) ≡ carriedAll (entriesAt false Empty z rs reads bus) (p .sheet)
   first-sheet true rs false = refl
   first-sheet true true true = refl
   first-sheet true false true = refl
@@ -135,7 +135,7 @@ module _ (time : ℕ) (r w : Bool) (bus byte : ℕ) (p : Panel) where
   first-sheet false true true = refl
   first-sheet false false true = refl
 
-  second-sheet : (rs wr : Bool) → sheetBy (secondOf rs wr byte) ≡ carriedAll (entryOf rs wr byte) (p .sheet)
+  second-sheet : (rs reads : Bool) → sheetBy (secondOf rs reads byte) ≡ carriedAll (entryOf rs reads byte) (p .sheet)
   second-sheet rs false = finish-sheet rs
   second-sheet true true = refl
   second-sheet false true = refl
@@ -152,20 +152,20 @@ ignored-sheet true true time r w bus byte p = refl
 ignored-sheet true false time r w bus byte p = refl
 ignored-sheet false b time r w bus byte p = refl
 
-way-sheet : (eight : Bool) (h : Half) (z rs wr : Bool) (time bus : ℕ) (p : Panel) → Narrow eight h →
-    sheetBy time rs wr bus (joinedOf eight h bus) p (wayOf eight h z rs wr (joinedOf eight h bus)) ≡ carriedAll (entriesAt eight h z rs wr bus) (p .sheet)
-way-sheet true h z rs wr time bus p n =
-    subst (λ x. sheetBy time rs wr bus bus p (wholeOf z rs wr bus) ≡ carriedAll (entriesAt true x z rs wr bus) (p .sheet)) (sym (n refl))
-    (whole-sheet time rs wr bus bus p z rs wr)
-way-sheet false Empty z rs wr time bus p n = first-sheet time rs wr bus (joinedOf false Empty bus) p z rs wr
-way-sheet false (Ignored a b) z rs wr time bus p n = ignored-sheet (Bool·beq a rs) (Bool·beq b wr) time rs wr bus (joinedOf false (Ignored a b) bus) p
-way-sheet false (Waiting a b nibble) z rs wr time bus p n =
+way-sheet : (eight : Bool) (h : Half) (z rs reads : Bool) (time bus : ℕ) (p : Panel) → Narrow eight h →
+    sheetBy time rs reads bus (joinedOf eight h bus) p (wayOf eight h z rs reads (joinedOf eight h bus)) ≡ carriedAll (entriesAt eight h z rs reads bus) (p .sheet)
+way-sheet true h z rs reads time bus p n =
+    subst (λ x. sheetBy time rs reads bus bus p (wholeOf z rs reads bus) ≡ carriedAll (entriesAt true x z rs reads bus) (p .sheet)) (sym (n refl))
+    (whole-sheet time rs reads bus bus p z rs reads)
+way-sheet false Empty z rs reads time bus p n = first-sheet time rs reads bus (joinedOf false Empty bus) p z rs reads
+way-sheet false (Ignored a b) z rs reads time bus p n = ignored-sheet (Bool·beq a rs) (Bool·beq b reads) time rs reads bus (joinedOf false (Ignored a b) bus) p
+way-sheet false (Waiting a b nibble) z rs reads time bus p n =
     let byte = joinedOf false (Waiting a b nibble) bus in
-    torn-sheet time rs wr bus byte p (Bool·beq a rs) (Bool·beq b wr) (secondOf rs wr byte) (entryOf rs wr byte) (second-sheet time rs wr bus byte p rs wr)
+    torn-sheet time rs reads bus byte p (Bool·beq a rs) (Bool·beq b reads) (secondOf rs reads byte) (entryOf rs reads byte) (second-sheet time rs reads bus byte p rs reads)
 
 -- DEMAND 2, THE STEPS
 pub steps : Steps ours
 unfolding transferred
-steps p bytes time rs wr bus s f l =
-    ap (λ (x : Recorded). x .panel .sheet) (sym (answered-sound p bytes s) ∙ in-time p bytes time rs wr bus f l)
-    ∙ way-sheet (p .sheet .registers .eight) (p .half) (free time p) rs wr time bus p (sound-narrow p s)
+steps p bytes time rs reads bus s f l =
+    ap (λ (x : Recorded). x .panel .sheet) (sym (answered-sound p bytes s) ∙ in-time p bytes time rs reads bus f l)
+    ∙ way-sheet (p .sheet .registers .eight) (p .half) (free time p) rs reads time bus p (sound-narrow p s)

@@ -39,22 +39,22 @@ Narrow eight h = eight ≡ true → h ≡ Empty
 
 -- a transfer can be carried out while h waits: whole at width 8, and otherwise as the second half of a pair
 abbrev pub Fits : Bool → Half → Bool → Type 0
-Fits true h wr = h ≡ Empty
-Fits false Empty wr = ⊥
-Fits false (Ignored r w) wr = ⊥
-Fits false (Waiting r w nibble) wr = w ≡ wr
+Fits true h reads = h ≡ Empty
+Fits false Empty reads = ⊥
+Fits false (Ignored r w) reads = ⊥
+Fits false (Waiting r w nibble) reads = w ≡ reads
 
 -- a transfer on the panel p, at a width and with a half waiting
-pub data Goes (p : Panel) (time : ℕ) (rs wr : Bool) (bus : ℕ) (eight : Bool) (h : Half) : Recorded → Type 0 where
+pub data Goes (p : Panel) (time : ℕ) (rs reads : Bool) (bus : ℕ) (eight : Bool) (h : Half) : Recorded → Type 0 where
   -- carried out, whole or as a pair
-  acts : (e : Entry) (span byte : ℕ) → entryOf rs wr (joinedOf eight h bus) ≡ e ∷ [] → Something e → Fits eight h wr →
-      Goes p time rs wr bus eight h (recorded (done time (carried e (p .sheet)) span p) say.Taken byte 14)
+  acts : (e : Entry) (span byte : ℕ) → entryOf rs reads (joinedOf eight h bus) ≡ e ∷ [] → Something e → Fits eight h reads →
+      Goes p time rs reads bus eight h (recorded (done time (carried e (p .sheet)) span p) say.Taken byte 14)
   -- nothing is carried out, and no half waits
-  drops : (a : Answer) (byte : ℕ) → Drops a → Goes p time rs wr bus eight h (recorded (holding time Empty p) a byte 14)
+  drops : (a : Answer) (byte : ℕ) → Drops a → Goes p time rs reads bus eight h (recorded (holding time Empty p) a byte 14)
   -- the first half of a pair, ignored or held
-  misses : h ≡ Empty → eight ≡ false → Goes p time rs wr bus eight h (recorded (holding time (Ignored rs wr) p) say.Ignored 0 14)
-  begins : (nibble byte : ℕ) → h ≡ Empty → eight ≡ false → (wr ≡ false → nibble ≡ bus / 16) →
-      Goes p time rs wr bus eight h (recorded (holding time (Waiting rs wr nibble) p) say.Held byte 14)
+  misses : h ≡ Empty → eight ≡ false → Goes p time rs reads bus eight h (recorded (holding time (Ignored rs reads) p) say.Ignored 0 14)
+  begins : (nibble byte : ℕ) → h ≡ Empty → eight ≡ false → (reads ≡ false → nibble ≡ bus / 16) →
+      Goes p time rs reads bus eight h (recorded (holding time (Waiting rs reads nibble) p) say.Held byte 14)
 
 module _ (p : Panel) (time : ℕ) (rs : Bool) (bus : ℕ) (eight : Bool) (h : Half) where
   abbrev byte : ℕ
@@ -69,25 +69,25 @@ module _ (p : Panel) (time : ℕ) (rs : Bool) (bus : ℕ) (eight : Bool) (h : Ha
       by false true e = drops say.Nothing 0 nothing
       by false false e = acts (instruct byte) (spanOf byte p) 0 refl (eqb-false byte 0 e) f
 
-whole-goes : (p : Panel) (time : ℕ) (rs wr : Bool) (bus : ℕ) (h : Half) (z : Bool) → h ≡ Empty →
-    Goes p time rs wr bus true h (went (wholeOf z rs wr bus) time rs wr bus bus p)
+whole-goes : (p : Panel) (time : ℕ) (rs reads : Bool) (bus : ℕ) (h : Half) (z : Bool) → h ≡ Empty →
+    Goes p time rs reads bus true h (went (wholeOf z rs reads bus) time rs reads bus bus p)
 whole-goes p time rs false bus h true n = finish-goes p time rs bus true h n
 whole-goes p time rs false bus h false n = drops say.Ignored 0 ignored
 whole-goes p time true true bus h true n = acts read (p .times .short) (hereOf p) refl tt n
 whole-goes p time true true bus h false n = drops say.Ignored 0 ignored
 whole-goes p time false true bus h z n = drops say.Status (statusOf time p) status
 
-first-goes : (p : Panel) (time : ℕ) (rs wr : Bool) (bus byte : ℕ) (z : Bool) →
-    Goes p time rs wr bus false Empty (went (firstOf z rs wr) time rs wr bus byte p)
+first-goes : (p : Panel) (time : ℕ) (rs reads : Bool) (bus byte : ℕ) (z : Bool) →
+    Goes p time rs reads bus false Empty (went (firstOf z rs reads) time rs reads bus byte p)
 first-goes p time rs false bus byte true = begins (bus / 16) 0 refl refl (λ e. refl)
 first-goes p time rs false bus byte false = misses refl refl
 first-goes p time true true bus byte true = begins (hereOf p % 16) (high (hereOf p)) refl refl (λ e. absurd (true≢false e))
 first-goes p time true true bus byte false = misses refl refl
 first-goes p time false true bus byte z = begins (statusOf time p % 16) (high (statusOf time p)) refl refl (λ e. absurd (true≢false e))
 
-second-goes : (p : Panel) (time : ℕ) (rs wr : Bool) (bus : ℕ) (r w : Bool) (nibble : ℕ) → w ≡ wr →
+second-goes : (p : Panel) (time : ℕ) (rs reads : Bool) (bus : ℕ) (r w : Bool) (nibble : ℕ) → w ≡ reads →
     let byte = joinedOf false (Waiting r w nibble) bus in
-    Goes p time rs wr bus false (Waiting r w nibble) (went (secondOf rs wr byte) time rs wr bus byte p)
+    Goes p time rs reads bus false (Waiting r w nibble) (went (secondOf rs reads byte) time rs reads bus byte p)
 second-goes p time rs false bus r w nibble e = finish-goes p time rs bus false (Waiting r w nibble) e
 second-goes p time true true bus r w nibble e = acts read (p .times .short) (nibbleOf (p .half) * 16) refl tt e
 second-goes p time false true bus r w nibble e = drops say.Status (nibbleOf (p .half) * 16) status
@@ -99,34 +99,34 @@ beq-same false true e = sym e
 beq-same false false e = refl
 
 -- a second half that differs is torn; any other has the first half's R/W
-torn-goes : (p : Panel) (time : ℕ) (rs wr : Bool) (bus byte : ℕ) (h : Half) (r w : Bool) (v : Way) →
-    (w ≡ wr → Goes p time rs wr bus false h (went v time rs wr bus byte p)) →
-    Goes p time rs wr bus false h (went (unlessTorn r w rs wr v) time rs wr bus byte p)
-torn-goes p time rs wr bus byte h r w v go = by (not (Bool·beq r rs)) (not (Bool·beq w wr)) (beq-same w wr)
+torn-goes : (p : Panel) (time : ℕ) (rs reads : Bool) (bus byte : ℕ) (h : Half) (r w : Bool) (v : Way) →
+    (w ≡ reads → Goes p time rs reads bus false h (went v time rs reads bus byte p)) →
+    Goes p time rs reads bus false h (went (unlessTorn r w rs reads v) time rs reads bus byte p)
+torn-goes p time rs reads bus byte h r w v go = by (not (Bool·beq r rs)) (not (Bool·beq w reads)) (beq-same w reads)
   where
-    by : (a b : Bool) → (b ≡ false → w ≡ wr) →
-        Goes p time rs wr bus false h (went (pick a Way.Torn (pick b Way.Torn v)) time rs wr bus byte p)
+    by : (a b : Bool) → (b ≡ false → w ≡ reads) →
+        Goes p time rs reads bus false h (went (pick a Way.Torn (pick b Way.Torn v)) time rs reads bus byte p)
     by true b e = drops say.Torn 0 torn
     by false true e = drops say.Torn 0 torn
     by false false e = go (e refl)
 
-goes : (p : Panel) (time : ℕ) (rs wr : Bool) (bus : ℕ) (eight : Bool) (h : Half) (z : Bool) → Narrow eight h →
+goes : (p : Panel) (time : ℕ) (rs reads : Bool) (bus : ℕ) (eight : Bool) (h : Half) (z : Bool) → Narrow eight h →
     let byte = joinedOf eight h bus in
-    Goes p time rs wr bus eight h (went (wayOf eight h z rs wr byte) time rs wr bus byte p)
-goes p time rs wr bus true h z n = whole-goes p time rs wr bus h z (n refl)
-goes p time rs wr bus false Empty z n = first-goes p time rs wr bus (joinedOf false Empty bus) z
-goes p time rs wr bus false (Ignored r w) z n =
-    torn-goes p time rs wr bus (joinedOf false (Ignored r w) bus) (Ignored r w) r w Way.Ignored (λ e. drops say.Ignored 0 ignored)
-goes p time rs wr bus false (Waiting r w nibble) z n =
+    Goes p time rs reads bus eight h (went (wayOf eight h z rs reads byte) time rs reads bus byte p)
+goes p time rs reads bus true h z n = whole-goes p time rs reads bus h z (n refl)
+goes p time rs reads bus false Empty z n = first-goes p time rs reads bus (joinedOf false Empty bus) z
+goes p time rs reads bus false (Ignored r w) z n =
+    torn-goes p time rs reads bus (joinedOf false (Ignored r w) bus) (Ignored r w) r w Way.Ignored (λ e. drops say.Ignored 0 ignored)
+goes p time rs reads bus false (Waiting r w nibble) z n =
     let byte = joinedOf false (Waiting r w nibble) bus in
-    torn-goes p time rs wr bus byte (Waiting r w nibble) r w (secondOf rs wr byte) (second-goes p time rs wr bus r w nibble)
+    torn-goes p time rs reads bus byte (Waiting r w nibble) r w (secondOf rs reads byte) (second-goes p time rs reads bus r w nibble)
 
 -- a record on the panel p: not acted on, a reset, or a transfer
 pub data Came (p : Panel) : Frame → Recorded → Type 0 where
   stands : (f : Frame) (a : Answer) (used : ℕ) → Stands a → Came p f (recorded p a 0 used)
   restarts : (time : ℕ) → p .last ≤ time → Came p (frame.Reset time) (recorded (done time freshSheet (p .times .reset) p) say.Taken 0 12)
-  transfers : (time : ℕ) (rs wr : Bool) (bus : ℕ) (r : Recorded) → p .last ≤ time → transferred time rs wr bus p ≡ r →
-      Goes p time rs wr bus (p .sheet .registers .eight) (p .half) r → Came p (frame.Transfer time rs wr bus) r
+  transfers : (time : ℕ) (rs reads : Bool) (bus : ℕ) (r : Recorded) → p .last ≤ time → transferred time rs reads bus p ≡ r →
+      Goes p time rs reads bus (p .sheet .registers .eight) (p .half) r → Came p (frame.Transfer time rs reads bus) r
 
 unless-back : (p : Panel) (f : Frame) (z : Bool) (used : ℕ) (r : Recorded) → (z ≡ false → Came p f r) → Came p f (pick z (recorded p say.Back 0 used) r)
 unless-back p f true used r go = stands f say.Back used back
@@ -139,8 +139,8 @@ came p (frame.Bad size) n = stands (frame.Bad size) say.Bad size bad
 came p (frame.Reset time) n =
     unless-back p (frame.Reset time) (ltb time (p .last)) 12 (recorded (done time freshSheet (p .times .reset) p) say.Taken 0 12)
     (λ e. restarts time (ltb-false time (p .last) e))
-came p (frame.Transfer time rs wr bus) n =
-    unless-back p (frame.Transfer time rs wr bus) (ltb time (p .last)) 14 (transferred time rs wr bus p)
+came p (frame.Transfer time rs reads bus) n =
+    unless-back p (frame.Transfer time rs reads bus) (ltb time (p .last)) 14 (transferred time rs reads bus p)
     (λ e.
-    transfers time rs wr bus (transferred time rs wr bus p) (ltb-false time (p .last) e) refl
-    (goes p time rs wr bus (p .sheet .registers .eight) (p .half) (free time p) n))
+    transfers time rs reads bus (transferred time rs reads bus p) (ltb-false time (p .last) e) refl
+    (goes p time rs reads bus (p .sheet .registers .eight) (p .half) (free time p) n))

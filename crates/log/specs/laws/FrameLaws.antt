@@ -119,7 +119,7 @@ seen s = by (cutAt s) refl where
 abbrev timeIn : Frame → ℕ
 timeIn Cut = 0
 timeIn (Bad n) = 0
-timeIn (Transfer t rs wr d) = t
+timeIn (Transfer t rs reads d) = t
 timeIn (Reset t) = t
 
 frame-time : (s : List ℕ) → timeIn (frameOf s) < 2 ^ 48
@@ -130,8 +130,8 @@ frame-time s = by (frameOf s) (seen s) where
   by f (transfer g k b h) = h
   by f (reset g k b h) = h
 
-pub transfer-time : (s : List ℕ) (t : ℕ) (rs wr : Bool) (d : ℕ) → frameOf s ≡ Transfer t rs wr d → t < 2 ^ 48
-transfer-time s t rs wr d e = rw e at (frame-time s)
+pub transfer-time : (s : List ℕ) (t : ℕ) (rs reads : Bool) (d : ℕ) → frameOf s ≡ Transfer t rs reads d → t < 2 ^ 48
+transfer-time s t rs reads d e = rw e at (frame-time s)
 
 pub reset-time : (s : List ℕ) (t : ℕ) → frameOf s ≡ Reset t → t < 2 ^ 48
 reset-time s t e = rw e at (frame-time s)
@@ -161,7 +161,7 @@ frame-cut s e = cut-size s (sym (size-whole s) ∙ ap sizeOf e)
 abbrev pub IsRecord : Frame → Type 0
 IsRecord Cut = ⊥
 IsRecord (Bad n) = Unit {0}
-IsRecord (Transfer t rs wr d) = Unit {0}
+IsRecord (Transfer t rs reads d) = Unit {0}
 IsRecord (Reset t) = Unit {0}
 
 pub frame-front : (s : List ℕ) {f : Frame} → frameOf s ≡ f → IsRecord f → Front s (sizeOf f)

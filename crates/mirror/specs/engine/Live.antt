@@ -52,17 +52,17 @@ Holds time half answer byte k r =
     (t : Times) (d p : List ℕ) → recordedOf t r d p ≡ recorded (holding time half (panelOf t k d p)) answer byte 14
 
 abbrev pub Waits : ℕ → Bool → Bool → ℕ → ℕ → Live → Live → Type 0
-Waits time rs wr nibble byte k r = Holds time (Waiting rs wr nibble) say.Held byte k r
+Waits time rs reads nibble byte k r = Holds time (Waiting rs reads nibble) say.Held byte k r
 
 abbrev pub Offers : ℕ → Bool → Bool → ℕ → Live → Live → Type 0
-Offers time rs wr byte k r = Waits time rs wr (byte % 16) (byte / 16 * 16) k r
+Offers time rs reads byte k r = Waits time rs reads (byte % 16) (byte / 16 * 16) k r
 
 abbrev pub Passes : ℕ → Answer → ℕ → ℕ → Live → Live → Type 0
 Passes time answer byte used k r =
     (t : Times) (d p : List ℕ) → recordedOf t r d p ≡ recorded (holding time Empty (panelOf t k d p)) answer byte used
 
 abbrev pub Misses : ℕ → Bool → Bool → Live → Live → Type 0
-Misses time rs wr k r = Holds time (Ignored rs wr) say.Ignored 0 k r
+Misses time rs reads k r = Holds time (Ignored rs reads) say.Ignored 0 k r
 
 abbrev pub Tears : ℕ → Live → Live → Type 0
 Tears time k r = Passes time say.Torn 0 14 k r

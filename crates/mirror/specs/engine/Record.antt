@@ -24,28 +24,28 @@ spanOf code p = pick (ltb code 4) (p .times .long) (p .times .short)
 
 -- what each way comes to
 abbrev pub went : Way → ℕ → Bool → Bool → ℕ → ℕ → Panel → Recorded
-went Way.Torn time rs wr bus byte p = recorded (holding time Empty p) say.Torn 0 14
-went Way.Ignored time rs wr bus byte p = recorded (holding time Empty p) say.Ignored 0 14
-went Way.Missed time rs wr bus byte p = recorded (holding time (Ignored rs wr) p) say.Ignored 0 14
-went Way.Nothing time rs wr bus byte p = recorded (holding time Empty p) say.Nothing 0 14
-went Way.HoldStatus time rs wr bus byte p =
-    recorded (holding time (Waiting rs wr (statusOf time p % 16)) p) say.Held (high (statusOf time p)) 14
-went Way.HoldRead time rs wr bus byte p = recorded (holding time (Waiting rs wr (hereOf p % 16)) p) say.Held (high (hereOf p)) 14
-went Way.HoldWrite time rs wr bus byte p = recorded (holding time (Waiting rs wr (bus / 16)) p) say.Held 0 14
-went Way.Status time rs wr bus byte p = recorded (holding time Empty p) say.Status (statusOf time p) 14
-went Way.StatusEnd time rs wr bus byte p = recorded (holding time Empty p) say.Status (nibbleOf (p .half) * 16) 14
-went Way.Read time rs wr bus byte p = recorded (done time (passed (p .sheet)) (p .times .short) p) say.Taken (hereOf p) 14
-went Way.ReadEnd time rs wr bus byte p =
+went Way.Torn time rs reads bus byte p = recorded (holding time Empty p) say.Torn 0 14
+went Way.Ignored time rs reads bus byte p = recorded (holding time Empty p) say.Ignored 0 14
+went Way.Missed time rs reads bus byte p = recorded (holding time (Ignored rs reads) p) say.Ignored 0 14
+went Way.Nothing time rs reads bus byte p = recorded (holding time Empty p) say.Nothing 0 14
+went Way.HoldStatus time rs reads bus byte p =
+    recorded (holding time (Waiting rs reads (statusOf time p % 16)) p) say.Held (high (statusOf time p)) 14
+went Way.HoldRead time rs reads bus byte p = recorded (holding time (Waiting rs reads (hereOf p % 16)) p) say.Held (high (hereOf p)) 14
+went Way.HoldWrite time rs reads bus byte p = recorded (holding time (Waiting rs reads (bus / 16)) p) say.Held 0 14
+went Way.Status time rs reads bus byte p = recorded (holding time Empty p) say.Status (statusOf time p) 14
+went Way.StatusEnd time rs reads bus byte p = recorded (holding time Empty p) say.Status (nibbleOf (p .half) * 16) 14
+went Way.Read time rs reads bus byte p = recorded (done time (passed (p .sheet)) (p .times .short) p) say.Taken (hereOf p) 14
+went Way.ReadEnd time rs reads bus byte p =
     recorded (done time (passed (p .sheet)) (p .times .short) p) say.Taken (nibbleOf (p .half) * 16) 14
-went Way.Write time rs wr bus byte p = recorded (done time (written byte (p .sheet)) (p .times .short) p) say.Taken 0 14
-went Way.Obey time rs wr bus byte p = recorded (done time (obeyed byte (p .sheet)) (spanOf byte p) p) say.Taken 0 14
+went Way.Write time rs reads bus byte p = recorded (done time (written byte (p .sheet)) (p .times .short) p) say.Taken 0 14
+went Way.Obey time rs reads bus byte p = recorded (done time (obeyed byte (p .sheet)) (spanOf byte p) p) say.Taken 0 14
 
 -- a transfer that is neither bad nor back
 unfoldable pub transferred : ℕ → Bool → Bool → ℕ → Panel → Recorded
-transferred time rs wr bus p =
+transferred time rs reads bus p =
     let eight = p .sheet .registers .eight in
     let byte = joinedOf eight (p .half) bus in
-    went (wayOf eight (p .half) (free time p) rs wr byte) time rs wr bus byte p
+    went (wayOf eight (p .half) (free time p) rs reads byte) time rs reads bus byte p
 
 -- a frame: back in time comes before all else, then a reset is taken, while busy too
 abbrev pub answered : Frame → Panel → Recorded
@@ -53,4 +53,4 @@ answered frame.Cut p = recorded p say.Cut 0 0
 answered (frame.Bad n) p = recorded p say.Bad 0 n
 answered (frame.Reset time) p =
     pick (ltb time (p .last)) (recorded p say.Back 0 12) (recorded (done time freshSheet (p .times .reset) p) say.Taken 0 12)
-answered (frame.Transfer time rs wr bus) p = pick (ltb time (p .last)) (recorded p say.Back 0 14) (transferred time rs wr bus p)
+answered (frame.Transfer time rs reads bus) p = pick (ltb time (p .last)) (recorded p say.Back 0 14) (transferred time rs reads bus p)

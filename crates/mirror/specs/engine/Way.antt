@@ -32,27 +32,27 @@ finishOf rs byte = pick rs Way.Write (pick (eqb byte 0) Way.Nothing Way.Obey)
 
 -- a transfer at width 8
 abbrev pub wholeOf : Bool → Bool → Bool → ℕ → Way
-wholeOf free rs wr byte =
-    pick wr (pick rs (pick free Way.Read Way.Ignored) Way.Status) (pick free (finishOf rs byte) Way.Ignored)
+wholeOf free rs reads byte =
+    pick reads (pick rs (pick free Way.Read Way.Ignored) Way.Status) (pick free (finishOf rs byte) Way.Ignored)
 
 -- the first half of a pair: free or busy is decided here for the pair
 abbrev pub firstOf : Bool → Bool → Bool → Way
-firstOf free rs wr =
-    pick wr (pick rs (pick free Way.HoldRead Way.Missed) Way.HoldStatus) (pick free Way.HoldWrite Way.Missed)
+firstOf free rs reads =
+    pick reads (pick rs (pick free Way.HoldRead Way.Missed) Way.HoldStatus) (pick free Way.HoldWrite Way.Missed)
 
 -- the second half of a pair that counts
 abbrev pub secondOf : Bool → Bool → ℕ → Way
-secondOf rs wr byte = pick wr (pick rs Way.ReadEnd Way.StatusEnd) (finishOf rs byte)
+secondOf rs reads byte = pick reads (pick rs Way.ReadEnd Way.StatusEnd) (finishOf rs byte)
 
 -- a second half that differs from the first in RS or R/W tears the pair
 abbrev pub unlessTorn : Bool → Bool → Bool → Bool → Way → Way
-unlessTorn r w rs wr v = pick (not (Bool·beq r rs)) Way.Torn (pick (not (Bool·beq w wr)) Way.Torn v)
+unlessTorn r w rs reads v = pick (not (Bool·beq r rs)) Way.Torn (pick (not (Bool·beq w reads)) Way.Torn v)
 
 -- a transfer at width 4, by the half that waits
 abbrev pub pairOf : Half → Bool → Bool → Bool → ℕ → Way
-pairOf half.Empty free rs wr byte = firstOf free rs wr
-pairOf (half.Ignored r w) free rs wr byte = unlessTorn r w rs wr Way.Ignored
-pairOf (half.Waiting r w nibble) free rs wr byte = unlessTorn r w rs wr (secondOf rs wr byte)
+pairOf half.Empty free rs reads byte = firstOf free rs reads
+pairOf (half.Ignored r w) free rs reads byte = unlessTorn r w rs reads Way.Ignored
+pairOf (half.Waiting r w nibble) free rs reads byte = unlessTorn r w rs reads (secondOf rs reads byte)
 
 abbrev pub wayOf : Bool → Half → Bool → Bool → Bool → ℕ → Way
-wayOf eight half free rs wr byte = pick eight (wholeOf free rs wr byte) (pairOf half free rs wr byte)
+wayOf eight half free rs reads byte = pick eight (wholeOf free rs reads byte) (pairOf half free rs reads byte)

@@ -207,9 +207,9 @@ module _ (p : Panel) (log : List ℕ) where
     eight : Bool
     eight = p .sheet .registers .eight
 
-    step : (rs wr : Bool) → (wr && not rs) ≡ false → (wr ≡ false → byteBy o (entry 0) ≡ byteOf p log) →
-        pick (rs || wr) eight (widthBy (byteBy o (entry 0)) eight) ≡
-        pick rs (pick wr (passed (p .sheet)) (written (byteOf p log) (p .sheet))) (obeyed (byteOf p log) (p .sheet)) .registers .eight
+    step : (rs reads : Bool) → (reads && not rs) ≡ false → (reads ≡ false → byteBy o (entry 0) ≡ byteOf p log) →
+        pick (rs || reads) eight (widthBy (byteBy o (entry 0)) eight) ≡
+        pick rs (pick reads (passed (p .sheet)) (written (byteOf p log) (p .sheet))) (obeyed (byteOf p log) (p .sheet)) .registers .eight
     step true true s same = refl
     step true false s same = sym (written-width (byteOf p log) (p .sheet))
     step false true s same = absurd (false≢true (sym s))

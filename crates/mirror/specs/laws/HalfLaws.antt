@@ -29,8 +29,8 @@ status-minded p log s z = by (subst (Case p log) z (answer-case p log)) where
   marked (Ignored false true) true d f b = false≢true f
   marked (Ignored false true) false d f b = false≢true f
 
-  bits : (half : Half) (eight rs wr busy : Bool) → (wr && not rs) ≡ true → differs half rs wr ≡ false → halfFits eight half ≡ true →
-      busyAt half (not (wr && not rs) && busy) ≡ true → ⊥
+  bits : (half : Half) (eight rs reads busy : Bool) → (reads && not rs) ≡ true → differs half rs reads ≡ false → halfFits eight half ≡ true →
+      busyAt half (not (reads && not rs) && busy) ≡ true → ⊥
   bits half eight rs false busy e d f b = false≢true e
   bits half eight true true busy e d f b = false≢true e
   bits half eight false true busy e d f b = marked half eight d f b
@@ -76,7 +76,7 @@ pub ignored-pair : (p : Panel) (a : List ℕ) (between : List (List ℕ)) (b : L
     let r = panelAfterAll q between in
     isTransfer b ≡ true → rsOf b ≡ rsOf a → rwOf b ≡ rwOf a → clocked (answerTo r b) ≡ true →
     (answerTo r b ≡ 3) × (panelAfter r b .half ≡ Empty)
-ignored-pair p a between b first three unheard kind rs wr heard =
+ignored-pair p a between b first three unheard kind rs reads heard =
     (marked-ignored r b mark kind heard, second-clears r b (ap waits mark) heard)
   where
     r : Panel
@@ -88,4 +88,4 @@ ignored-pair p a between b first three unheard kind rs wr heard =
         (between-keeps (panelAfter p a) between unheard ∙ answer-panel p a ∙ ap (λ n. panelFor n p a) three)
         ∙ ap (λ x. pick x (Ignored (rsOf a) (rwOf a)) Empty) first
         ∙ ap (λ x. Ignored x (rwOf a)) (sym rs)
-        ∙ ap (λ x. Ignored (rsOf b) x) (sym wr)
+        ∙ ap (λ x. Ignored (rsOf b) x) (sym reads)

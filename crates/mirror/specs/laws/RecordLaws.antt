@@ -19,24 +19,24 @@ use Rattle.mirror.specs.declared.half.Half.the-variants.{Waiting}
 use Rattle.mirror.specs.declared.panel.Panel.{Panel}
 
 -- a transfer by its byte and its way, once they are known
-pub by-way : (time : ℕ) (rs wr : Bool) (bus : ℕ) (p : Panel) (byte : ℕ) (v : Way) →
+pub by-way : (time : ℕ) (rs reads : Bool) (bus : ℕ) (p : Panel) (byte : ℕ) (v : Way) →
     byte ≡ joinedOf (p .sheet .registers .eight) (p .half) bus →
-    v ≡ wayOf (p .sheet .registers .eight) (p .half) (free time p) rs wr byte →
-    went v time rs wr bus byte p ≡ transferred time rs wr bus p
+    v ≡ wayOf (p .sheet .registers .eight) (p .half) (free time p) rs reads byte →
+    went v time rs reads bus byte p ≡ transferred time rs reads bus p
 unfolding transferred
-by-way time rs wr bus p byte v b d =
-    ap (λ x. went x time rs wr bus byte p) d ∙
-    ap (λ y. went (wayOf (p .sheet .registers .eight) (p .half) (free time p) rs wr y) time rs wr bus y p) b
+by-way time rs reads bus p byte v b d =
+    ap (λ x. went x time rs reads bus byte p) d ∙
+    ap (λ y. went (wayOf (p .sheet .registers .eight) (p .half) (free time p) rs reads y) time rs reads bus y p) b
 
 -- equal ways come to equal answers
-pub went-as : (time : ℕ) (rs wr : Bool) (bus byte : ℕ) (p : Panel) (v w : Way) → v ≡ w →
-    went v time rs wr bus byte p ≡ went w time rs wr bus byte p
-went-as time rs wr bus byte p v w e = ap (λ x. went x time rs wr bus byte p) e
+pub went-as : (time : ℕ) (rs reads : Bool) (bus byte : ℕ) (p : Panel) (v w : Way) → v ≡ w →
+    went v time rs reads bus byte p ≡ went w time rs reads bus byte p
+went-as time rs reads bus byte p v w e = ap (λ x. went x time rs reads bus byte p) e
 
 -- equal bytes, and equal sheets, come to equal answers
-pub held-as : (time : ℕ) (rs wr : Bool) (p : Panel) (b c : ℕ) → b ≡ c →
-    recorded (holding time (Waiting rs wr (b % 16)) p) say.Held (high b) 14 ≡ recorded (holding time (Waiting rs wr (c % 16)) p) say.Held (high c) 14
-held-as time rs wr p b c e = ap (λ x. recorded (holding time (Waiting rs wr (x % 16)) p) say.Held (high x) 14) e
+pub held-as : (time : ℕ) (rs reads : Bool) (p : Panel) (b c : ℕ) → b ≡ c →
+    recorded (holding time (Waiting rs reads (b % 16)) p) say.Held (high b) 14 ≡ recorded (holding time (Waiting rs reads (c % 16)) p) say.Held (high c) 14
+held-as time rs reads p b c e = ap (λ x. recorded (holding time (Waiting rs reads (x % 16)) p) say.Held (high x) 14) e
 
 pub shown-as : (p : Panel) (a : Answer) (b c : ℕ) → b ≡ c → recorded p a b 14 ≡ recorded p a c 14
 shown-as p a b c e = ap (λ x. recorded p a x 14) e

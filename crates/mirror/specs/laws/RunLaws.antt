@@ -27,20 +27,20 @@ use Rattle.mirror.specs.declared.record.Recorded.{Recorded}
 use Rattle.mirror.specs.declared.totals.Totals.{Totals}
 
 -- every way of a transfer uses its 14 bytes
-went-used : (v : Way) (time : ℕ) (rs wr : Bool) (bus byte : ℕ) (p : Panel) → went v time rs wr bus byte p .used ≡ 14
-went-used Way.Torn time rs wr bus byte p = refl
-went-used Way.Ignored time rs wr bus byte p = refl
-went-used Way.Missed time rs wr bus byte p = refl
-went-used Way.Nothing time rs wr bus byte p = refl
-went-used Way.HoldStatus time rs wr bus byte p = refl
-went-used Way.HoldRead time rs wr bus byte p = refl
-went-used Way.HoldWrite time rs wr bus byte p = refl
-went-used Way.Status time rs wr bus byte p = refl
-went-used Way.StatusEnd time rs wr bus byte p = refl
-went-used Way.Read time rs wr bus byte p = refl
-went-used Way.ReadEnd time rs wr bus byte p = refl
-went-used Way.Write time rs wr bus byte p = refl
-went-used Way.Obey time rs wr bus byte p = refl
+went-used : (v : Way) (time : ℕ) (rs reads : Bool) (bus byte : ℕ) (p : Panel) → went v time rs reads bus byte p .used ≡ 14
+went-used Way.Torn time rs reads bus byte p = refl
+went-used Way.Ignored time rs reads bus byte p = refl
+went-used Way.Missed time rs reads bus byte p = refl
+went-used Way.Nothing time rs reads bus byte p = refl
+went-used Way.HoldStatus time rs reads bus byte p = refl
+went-used Way.HoldRead time rs reads bus byte p = refl
+went-used Way.HoldWrite time rs reads bus byte p = refl
+went-used Way.Status time rs reads bus byte p = refl
+went-used Way.StatusEnd time rs reads bus byte p = refl
+went-used Way.Read time rs reads bus byte p = refl
+went-used Way.ReadEnd time rs reads bus byte p = refl
+went-used Way.Write time rs reads bus byte p = refl
+went-used Way.Obey time rs reads bus byte p = refl
 
 -- the bytes used are the frame's
 pub answered-used : (f : Frame) (p : Panel) → answered f p .used ≡ sizeOf f
@@ -52,12 +52,12 @@ answered-used (frame.Reset t) p = by (ltb t (p .last))
     by : (b : Bool) → pick b (recorded p say.Back 0 12) (recorded (done t freshSheet (p .times .reset) p) say.Taken 0 12) .used ≡ 12
     by true = refl
     by false = refl
-answered-used (frame.Transfer t rs wr bus) p = by (ltb t (p .last))
+answered-used (frame.Transfer t rs reads bus) p = by (ltb t (p .last))
   where
-    by : (b : Bool) → pick b (recorded p say.Back 0 14) (transferred t rs wr bus p) .used ≡ 14
+    by : (b : Bool) → pick b (recorded p say.Back 0 14) (transferred t rs reads bus p) .used ≡ 14
     by true = refl
     by false =
-        went-used (wayOf (p .sheet .registers .eight) (p .half) (free t p) rs wr (joinedOf (p .sheet .registers .eight) (p .half) bus)) t rs wr bus
+        went-used (wayOf (p .sheet .registers .eight) (p .half) (free t p) rs reads (joinedOf (p .sheet .registers .eight) (p .half) bus)) t rs reads bus
         (joinedOf (p .sheet .registers .eight) (p .half) bus) p
 
 -- an answer that used nothing stands at the cut, and leaves all as it was

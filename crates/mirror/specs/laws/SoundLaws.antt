@@ -43,20 +43,20 @@ pub fresh-lasts : (reset long short : ℕ) → reset ≤ 65535 → long ≤ 6553
 fresh-lasts r l s a b c = record { sound = fresh-parts r l s; times = record { reset = a; long = b; short = c } }
 
 -- a first half that is marked ignored is no status half
-ignored-fits : (eight : Bool) (half : Half) (rs wr busy : Bool) → busyAt half (not (wr && not rs) && busy) ≡ true →
-    halfFits eight (pick (not eight && not (waits half)) (Ignored rs wr) Empty) ≡ true
-ignored-fits true half rs wr busy e = refl
-ignored-fits false (Ignored r w) rs wr busy e = refl
-ignored-fits false (Waiting r w nibble) rs wr busy e = refl
-ignored-fits false Empty true wr busy e = refl
+ignored-fits : (eight : Bool) (half : Half) (rs reads busy : Bool) → busyAt half (not (reads && not rs) && busy) ≡ true →
+    halfFits eight (pick (not eight && not (waits half)) (Ignored rs reads) Empty) ≡ true
+ignored-fits true half rs reads busy e = refl
+ignored-fits false (Ignored r w) rs reads busy e = refl
+ignored-fits false (Waiting r w nibble) rs reads busy e = refl
+ignored-fits false Empty true reads busy e = refl
 ignored-fits false Empty false false busy e = refl
 ignored-fits false Empty false true busy e = absurd (false≢true e)
 
 -- a first half comes at width 4
-held-fits : (eight : Bool) (half : Half) (rs wr : Bool) (nibble : ℕ) → (not eight && not (waits half)) ≡ true → nibble < 16 →
-    halfFits eight (Waiting rs wr nibble) ≡ true
-held-fits true half rs wr nibble f n = absurd (false≢true f)
-held-fits false half rs wr nibble f n = lt-ltb nibble 16 n
+held-fits : (eight : Bool) (half : Half) (rs reads : Bool) (nibble : ℕ) → (not eight && not (waits half)) ≡ true → nibble < 16 →
+    halfFits eight (Waiting rs reads nibble) ≡ true
+held-fits true half rs reads nibble f n = absurd (false≢true f)
+held-fits false half rs reads nibble f n = lt-ltb nibble 16 n
 
 -- times are below 2^48
 good-time : (log : List ℕ) → badAt log ≡ false → timeOf log < timeEnd

@@ -27,11 +27,11 @@ use Rattle.mirror.specs.declared.record.Recorded.{Recorded}
 
 -- `transferFor` with all that it looks at apart, so that each can be generalised
 abbrev numberBy : Bool → Half → Bool → Bool → Bool → ℕ → ℕ
-numberBy eight half free rs wr byte =
+numberBy eight half free rs reads byte =
     let first = not eight && not (waits half) in
-    pick (differs half rs wr) 4
-    (pick (busyAt half (not (wr && not rs) && not free)) 3
-    (pick (not first && not rs && not wr && eqb byte 0) 7 (pick first 1 (pick (wr && not rs) 2 0))))
+    pick (differs half rs reads) 4
+    (pick (busyAt half (not (reads && not rs) && not free)) 3
+    (pick (not first && not rs && not reads && eqb byte 0) 7 (pick first 1 (pick (reads && not rs) 2 0))))
 
 -- a row whose number and byte look at no half at width 8
 record RowAt (n : ℕ) (p : Panel) (log : List ℕ) (r : Recorded) : Type 0 where
@@ -59,11 +59,11 @@ at eight half p =
     }
 
 -- a transfer that is neither cut nor bad, with its RS and R/W
-record Good (log : List ℕ) (rs wr : Bool) : Type 0 where
+record Good (log : List ℕ) (rs reads : Bool) : Type 0 where
   kind : kindOf log ≡ 1
   size : 14 ≡ recordSize log
   rs-is : rsOf log ≡ rs
-  wr-is : rwOf log ≡ wr
+  reads-is : rwOf log ≡ reads
 
 -- the row of a way
 abbrev Goes : ℕ → Way → ℕ → Panel → List ℕ → Type 0
@@ -79,30 +79,30 @@ module _ (p : Panel) (log : List ℕ) where
   code : (eight : Bool) (half : Half) → Good log false false → (b : Bool) →
       Goes (pick b 7 0) (pick b Way.Nothing Way.Obey) (joinedOf eight half (dataOf log)) (at eight half p) log
   code eight half g true = row refl refl refl (g .size)
-  code eight half g false = row refl (rw (g .kind, g .wr-is)) (rw (g .kind, g .rs-is)) (g .size)
+  code eight half g false = row refl (rw (g .kind, g .reads-is)) (rw (g .kind, g .rs-is)) (g .size)
 
-  whole : (half : Half) (free wr rs : Bool) → Good log rs wr →
-      let byte = dataOf log in Goes (numberBy true Empty free rs wr byte) (wholeOf free rs wr byte) byte (at true half p) log
-  whole half free true false g = row refl (rw (g .kind, g .rs-is, g .wr-is)) refl (g .size)
+  whole : (half : Half) (free reads rs : Bool) → Good log rs reads →
+      let byte = dataOf log in Goes (numberBy true Empty free rs reads byte) (wholeOf free rs reads byte) byte (at true half p) log
+  whole half free true false g = row refl (rw (g .kind, g .rs-is, g .reads-is)) refl (g .size)
   whole half false true true g = row refl refl refl (g .size)
   whole half false false rs g = row refl refl refl (g .size)
-  whole half true true true g = row refl (rw (g .kind, g .rs-is, g .wr-is)) (rw (g .kind, g .rs-is, g .wr-is)) (g .size)
-  whole half true false true g = row refl (rw (g .kind, g .wr-is)) (rw (g .kind, g .rs-is, g .wr-is)) (g .size)
+  whole half true true true g = row refl (rw (g .kind, g .rs-is, g .reads-is)) (rw (g .kind, g .rs-is, g .reads-is)) (g .size)
+  whole half true false true g = row refl (rw (g .kind, g .reads-is)) (rw (g .kind, g .rs-is, g .reads-is)) (g .size)
   whole half true false false g = code true half g (eqb (dataOf log) 0)
 
-  first : (byte : ℕ) (free wr rs : Bool) → Good log rs wr →
-      Goes (numberBy false Empty free rs wr byte) (firstOf free rs wr) byte (at false Empty p) log
-  first byte free true false g = row refl (rw (g .kind, g .rs-is, g .wr-is)) (rw (g .rs-is, g .wr-is)) (g .size)
+  first : (byte : ℕ) (free reads rs : Bool) → Good log rs reads →
+      Goes (numberBy false Empty free rs reads byte) (firstOf free rs reads) byte (at false Empty p) log
+  first byte free true false g = row refl (rw (g .kind, g .rs-is, g .reads-is)) (rw (g .rs-is, g .reads-is)) (g .size)
   first byte false true true g = row refl refl refl (g .size)
   first byte false false rs g = row refl refl refl (g .size)
-  first byte true true true g = row refl (rw (g .kind, g .rs-is, g .wr-is)) (rw (g .rs-is, g .wr-is)) (g .size)
-  first byte true false rs g = row refl (rw (g .kind, g .wr-is)) (rw (g .wr-is)) (g .size)
+  first byte true true true g = row refl (rw (g .kind, g .rs-is, g .reads-is)) (rw (g .rs-is, g .reads-is)) (g .size)
+  first byte true false rs g = row refl (rw (g .kind, g .reads-is)) (rw (g .reads-is)) (g .size)
 
-  second : (r w : Bool) (nibble : ℕ) (wr rs : Bool) → Good log rs wr → let h = Waiting r w nibble in let byte = joinedOf false h (dataOf log) in
-      Goes (pick (not rs && not wr && eqb byte 0) 7 (pick (wr && not rs) 2 0)) (secondOf rs wr byte) byte (at false h p) log
-  second r w nibble true false g = row refl (rw (g .kind, g .wr-is)) refl (g .size)
-  second r w nibble true true g = row refl (rw (g .kind, g .wr-is)) (rw (g .kind, g .rs-is, g .wr-is)) (g .size)
-  second r w nibble false true g = row refl (rw (g .kind, g .wr-is)) (rw (g .kind, g .rs-is, g .wr-is)) (g .size)
+  second : (r w : Bool) (nibble : ℕ) (reads rs : Bool) → Good log rs reads → let h = Waiting r w nibble in let byte = joinedOf false h (dataOf log) in
+      Goes (pick (not rs && not reads && eqb byte 0) 7 (pick (reads && not rs) 2 0)) (secondOf rs reads byte) byte (at false h p) log
+  second r w nibble true false g = row refl (rw (g .kind, g .reads-is)) refl (g .size)
+  second r w nibble true true g = row refl (rw (g .kind, g .reads-is)) (rw (g .kind, g .rs-is, g .reads-is)) (g .size)
+  second r w nibble false true g = row refl (rw (g .kind, g .reads-is)) (rw (g .kind, g .rs-is, g .reads-is)) (g .size)
   second r w nibble false false g = code false (Waiting r w nibble) g (eqb (joinedOf false (Waiting r w nibble) (dataOf log)) 0)
 
   torn : (h : Half) (byte : ℕ) (a b : Bool) {n : ℕ} (v : Way) → 14 ≡ recordSize log → Goes n v byte (at false h p) log →
@@ -111,26 +111,26 @@ module _ (p : Panel) (log : List ℕ) where
   torn h byte false true v s g = row refl refl refl s
   torn h byte false false v s g = g
 
-  goes : (eight : Bool) (half : Half) (free wr rs : Bool) → Good log rs wr →
+  goes : (eight : Bool) (half : Half) (free reads rs : Bool) → Good log rs reads →
       let byte = joinedOf eight half (dataOf log) in
       let none = pick eight Empty half in
-      Goes (numberBy eight none free rs wr (joinedOf eight none (dataOf log))) (wayOf eight half free rs wr byte) byte (at eight half p) log
-  goes true half free wr rs g = whole half free wr rs g
-  goes false Empty free wr rs g = first (joinedOf false Empty (dataOf log)) free wr rs g
-  goes false (Ignored r w) free wr rs g =
-      torn (Ignored r w) (joinedOf false (Ignored r w) (dataOf log)) (not (Bool·beq r rs)) (not (Bool·beq w wr)) Way.Ignored (g .size)
+      Goes (numberBy eight none free rs reads (joinedOf eight none (dataOf log))) (wayOf eight half free rs reads byte) byte (at eight half p) log
+  goes true half free reads rs g = whole half free reads rs g
+  goes false Empty free reads rs g = first (joinedOf false Empty (dataOf log)) free reads rs g
+  goes false (Ignored r w) free reads rs g =
+      torn (Ignored r w) (joinedOf false (Ignored r w) (dataOf log)) (not (Bool·beq r rs)) (not (Bool·beq w reads)) Way.Ignored (g .size)
       (row refl refl refl (g .size))
-  goes false (Waiting r w nibble) free wr rs g =
+  goes false (Waiting r w nibble) free reads rs g =
       let byte = joinedOf false (Waiting r w nibble) (dataOf log) in
-      torn (Waiting r w nibble) byte (not (Bool·beq r rs)) (not (Bool·beq w wr)) (secondOf rs wr byte) (g .size)
-      (second r w nibble wr rs g)
+      torn (Waiting r w nibble) byte (not (Bool·beq r rs)) (not (Bool·beq w reads)) (secondOf rs reads byte) (g .size)
+      (second r w nibble reads rs g)
 
 module _ (p : Panel) (log : List ℕ) where
   transfer-row : kindOf log ≡ 1 → 14 ≡ recordSize log → RowAt (transferFor (wholeAt p) log) p log (transferred (timeOf log) (rsOf log) (rwOf log) (dataOf log) p)
   unfolding transferred
   transfer-row k s =
       goes p log (p .sheet .registers .eight) (p .half) (free (timeOf log) p) (rwOf log) (rsOf log)
-      (record { kind = k; size = s; rs-is = refl; wr-is = refl })
+      (record { kind = k; size = s; rs-is = refl; reads-is = refl })
 
   unless-back : (b : Bool) {n size : ℕ} (r : Recorded) → size ≡ recordSize log → RowAt n p log r → RowAt (pick b 5 n) p log (pick b (recorded p say.Back 0 size) r)
   unless-back true r s h = row p log refl refl refl s

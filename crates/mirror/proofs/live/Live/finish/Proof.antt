@@ -18,7 +18,7 @@ done-requires : tie.Need-done-requires
 done-requires c κs = search needs
 
 returns : tie.Need-returns
-returns c wr bus =
+returns c reads bus =
     let a = c .before .before .before .before .before .before .args in
     let q = panelOf (a .times) (a .self) (now (a .display)) (now (a .pattern)) in
     rw (c .before .before .before .before .if1 .taken)
@@ -28,7 +28,7 @@ pass-requires : tie.Need-pass-requires
 pass-requires c κs = search needs
 
 returns-2 : tie.Need-returns-2
-returns-2 c wr bus = rw (c .before .before .if1 .left, eq-eqb _ _ (c .before .if2 .taken)) (c .pass .ensures _ _ _)
+returns-2 c reads bus = rw (c .before .before .if1 .left, eq-eqb _ _ (c .before .if2 .taken)) (c .pass .ensures _ _ _)
 
 obey-requires : tie.Need-obey-requires
 obey-requires c κs = search needs
@@ -40,7 +40,7 @@ done-requires-2 : tie.Need-done-requires-2
 done-requires-2 c κs = search needs
 
 returns-3 : tie.Need-returns-3
-returns-3 c wr bus =
+returns-3 c reads bus =
     let a = c .before .before .before .before .before .before .before .args in
     let q = panelOf (a .times) (a .self) (now (a .display)) (now (a .pattern)) in
     rw (c .before .before .before .before .before .if1 .left, ne-eqb _ _ (c .before .before .before .before .if2 .left))
