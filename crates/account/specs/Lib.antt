@@ -11,6 +11,7 @@ pub mod Account
 pub mod AccountLaws
 pub mod DataWrites
 pub mod Lines
+pub mod Report
 pub mod StandsLaws
 pub mod DataWritesLaws
 pub mod LinesLaws

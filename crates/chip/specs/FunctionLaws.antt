@@ -4,7 +4,7 @@ use mathlib.Core.Path.{_≡_, refl, sym, ap, _∙_}
 use mathlib.Core.Bool.{Bool, true, false}
 use Rattle.chip.specs.Sheet.{readHere, withFunction}
 use Rattle.chip.specs.Instruction.{decoded}
-use Rattle.chip.specs.Step.{acted, obeyed, storedAt, movedOn, writtenAt, written, passed}
+use Rattle.chip.specs.Step.{acted, obeyed, stepped, storedAt, followed, writtenAt, written, passed}
 use Rattle.chip.specs.declared.address.Address.{Address}
 use Rattle.chip.specs.declared.address.Address.the-variants.{Display, Pattern}
 use Rattle.chip.specs.declared.instruction.Instruction.{Instruction}
@@ -45,12 +45,12 @@ obeyed-regardless code = acted-regardless (decoded code)
 pub written-regardless : (byte : ℕ) → Regardless (written byte)
 written-regardless byte = forgetting (written byte) (λ s. at s (s .registers .address))
   where
-    on : (s : Sheet) (b : Bool) → bitless (movedOn b (bitless s)) ≡ bitless (movedOn b s)
+    on : (s : Sheet) (b : Bool) → bitless (followed b (bitless s)) ≡ bitless (followed b s)
     on s true = refl
     on s false = refl
 
     at : (s : Sheet) (a : Address) → bitless (writtenAt a byte (bitless s)) ≡ bitless (writtenAt a byte s)
-    at s (Display d) = on (storedAt (Display d) byte s) (s .registers .follow)
+    at s (Display d) = on (stepped (s .registers .up) (storedAt (Display d) byte s)) (s .registers .follow)
     at s (Pattern p) = refl
 
 -- a data read, and the byte that it puts on the bus

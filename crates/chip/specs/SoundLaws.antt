@@ -16,7 +16,7 @@ use Rattle.laws.specs.Ring.{moved-below}
 use Rattle.chip.specs.Address.{displaySize, patternSize, display, pattern, movedAddress}
 use Rattle.chip.specs.Sheet.{freshSheet}
 use Rattle.chip.specs.Instruction.{bit, unset, decoded}
-use Rattle.chip.specs.Step.{homed, cleared, entered, lit, stepped, shifted, functionSet, addressSet, acted, obeyed, storedAt, movedOn, shiftsAt, written, passed}
+use Rattle.chip.specs.Step.{homed, cleared, entered, lit, stepped, shifted, functionSet, addressSet, acted, obeyed, storedAt, followed, shiftsAt, written, passed}
 use Rattle.chip.specs.Sound.{addressFits, patternFits, soundSheet}
 use Rattle.chip.specs.declared.address.Address.{Address}
 use Rattle.chip.specs.declared.address.Address.the-variants.{Display, Pattern}
@@ -144,16 +144,17 @@ stored-sound (Pattern p) byte s h =
       entries = set-fits (s .pattern) (p .0 % patternSize) (byte % 32) (mod-lt byte (omega arith)) (h .entries);
     }
 
-movedOn-sound : (shifts : Bool) (s : Sheet) → Sound s → Sound (movedOn shifts s)
-movedOn-sound true s h = let up = s .registers .up in shifted-sound up (stepped up s) (stepped-sound up s h)
-movedOn-sound false s h = stepped-sound (s .registers .up) s h
+followed-sound : (shifts : Bool) (s : Sheet) → Sound s → Sound (followed shifts s)
+followed-sound true s h = shifted-sound (s .registers .up) s h
+followed-sound false s h = h
 
 -- so does a data write
 pub written-sound : (byte : ℕ) (s : Sheet) → Sound s → Sound (written byte s)
 written-sound byte s h =
     let a = s .registers .address in
-    movedOn-sound (shiftsAt a (s .registers .follow)) (storedAt a byte s) (stored-sound a byte s h)
+    followed-sound (shiftsAt a (s .registers .follow)) (stepped (s .registers .up) (storedAt a byte s))
+    (stepped-sound (s .registers .up) (storedAt a byte s) (stored-sound a byte s h))
 
 -- and a data read
 pub passed-sound : (s : Sheet) → Sound s → Sound (passed s)
-passed-sound s h = movedOn-sound false s h
+passed-sound s h = stepped-sound (s .registers .up) s h

@@ -66,9 +66,9 @@ abbrev pub storedAt : Address → ℕ → Sheet → Sheet
 storedAt (Display a) byte s = withDisplay (writtenDisplay a byte (s .display)) s
 storedAt (Pattern a) byte s = withPattern (writtenPattern a byte (s .pattern)) s
 
--- the address moves by I/D and, where told, the display with it: left if I/D = 1, right if 0
-abbrev pub movedOn : Bool → Sheet → Sheet
-movedOn shifts s = let t = stepped (s .registers .up) s in pick shifts (shifted (s .registers .up) t) t
+-- the display shifts with the address where told: left if I/D = 1, right if 0
+abbrev pub followed : Bool → Sheet → Sheet
+followed shifts s = pick shifts (shifted (s .registers .up) s) s
 
 -- whether a write shifts: with S = 1, in display memory alone
 abbrev pub shiftsAt : Address → Bool → Bool
@@ -77,11 +77,11 @@ shiftsAt (Pattern a) follow = false
 
 -- data write: stores at the address, then the address moves by I/D, then the shift
 abbrev pub writtenAt : Address → ℕ → Sheet → Sheet
-writtenAt a byte s = movedOn (shiftsAt a (s .registers .follow)) (storedAt a byte s)
+writtenAt a byte s = followed (shiftsAt a (s .registers .follow)) (stepped (s .registers .up) (storedAt a byte s))
 
 abbrev pub written : ℕ → Sheet → Sheet
 written byte s = writtenAt (s .registers .address) byte s
 
 -- data read: the address moves; no shift
 abbrev pub passed : Sheet → Sheet
-passed s = movedOn false s
+passed s = followed false (stepped (s .registers .up) s)

@@ -9,7 +9,7 @@ use lib.ListN.{length, getD, set}
 use lib.Seq.{getD-set-same, getD-set-other}
 use Rattle.laws.specs.Pick.{pick}
 use Rattle.chip.specs.Address.{displaySize, patternSize, readDisplay, writtenDisplay, readPattern, writtenPattern, numberOf}
-use Rattle.chip.specs.Step.{homed, cleared, entered, lit, stepped, shifted, functionSet, addressSet, storedAt, movedOn, writtenAt, written, passed}
+use Rattle.chip.specs.Step.{homed, cleared, entered, lit, stepped, shifted, functionSet, addressSet, storedAt, followed, writtenAt, written, passed}
 use Rattle.chip.specs.declared.address.DisplayAddress.{DisplayAddress}
 use Rattle.chip.specs.declared.address.PatternAddress.{PatternAddress}
 use Rattle.chip.specs.declared.address.Address.{Address}
@@ -94,14 +94,14 @@ pub display-write-keeps : (d : DisplayAddress) (byte : ℕ) (s : Sheet) → let 
     SameEntry s t × SameScreen s t × SameFunction s t × SamePattern s t
 display-write-keeps d byte s = by (s .registers .follow)
   where
-    by : (b : Bool) → let t = movedOn b (storedAt (Display d) byte s) in
+    by : (b : Bool) → let t = followed b (stepped (s .registers .up) (storedAt (Display d) byte s)) in
         SameEntry s t × SameScreen s t × SameFunction s t × SamePattern s t
     by true = ((refl, refl), (refl, refl, refl), (refl, refl), refl)
     by false = ((refl, refl), (refl, refl, refl), (refl, refl), refl)
 
 -- with S = 0 a display write leaves the shift too
 pub still-write-keeps : (d : DisplayAddress) (byte : ℕ) (s : Sheet) → s .registers .follow ≡ false → SameShift s (writtenAt (Display d) byte s)
-still-write-keeps d byte s e = ap (λ b. movedOn b (storedAt (Display d) byte s) .registers .shift) e
+still-write-keeps d byte s e = ap (λ b. followed b (stepped (s .registers .up) (storedAt (Display d) byte s)) .registers .shift) e
 
 -- a value stored round a memory of n places reads back
 back : (n a v : ℕ) (m : List ℕ) → 0 < n → n ≤ length m → getD (set m (a % n) v) (a % n) 0 ≡ v

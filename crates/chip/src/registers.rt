@@ -2,7 +2,7 @@
 // copied; together with the memories as they then stand, the answer is the meaning's step of the whole sheet.
 ghost use mathlib.Core.Path.{_≡_};
 ghost use Rattle.chip.specs.Sheet.{Starts, Steps, StepsDisplay, StepsBoth, freshSheet, readHere};
-ghost use Rattle.chip.specs.Step.{cleared, homed, entered, lit, stepped, shifted, functionSet, addressSet, movedOn, written, passed, acted, obeyed};
+ghost use Rattle.chip.specs.Step.{cleared, homed, entered, lit, stepped, shifted, functionSet, addressSet, followed, written, passed, acted, obeyed};
 use crate::address::Address;
 use crate::address::DISPLAY_SIZE;
 use crate::address::DisplayAddress;
@@ -161,15 +161,14 @@ impl Registers {
         }
     }
 
-    // What comes after a data transfer: the address moves by I/D and, where told, the display with it.
-    fn move_on(self, shifts: bool) -> Registers
-        ensures { λ r. ⌜ Steps (movedOn shifts) self r ⌝ }
+    // The display shifts with the address where told: left if I/D = 1, right if 0.
+    fn followed(self, shifts: bool) -> Registers
+        ensures { λ r. ⌜ Steps (followed shifts) self r ⌝ }
     {
-        let moved = self.step(self.up);
         if shifts {
-            moved.shift_by_one(self.up)
+            self.shift_by_one(self.up)
         } else {
-            moved
+            self
         }
     }
 
@@ -177,7 +176,7 @@ impl Registers {
     pub fn read(self) -> Registers
         ensures { λ r. ⌜ Steps passed self r ⌝ }
     {
-        self.move_on(false)
+        self.step(self.up).followed(false)
     }
 
     // A data write shifts with S = 1, and in display memory alone.
@@ -190,16 +189,15 @@ impl Registers {
         ensures { λ r. ⌜ StepsBoth (written byte) self (now (display .entry)) (now (pattern .entry)) r (now (display .exit)) (now (pattern .exit)) ⌝ }
     {
         let a = self.address;
+        let moved = self.step(self.up);
         match a {
             Address::Display(d) => {
-                let next = self.move_on(self.follow);
                 d.write(byte, display);
-                next
+                moved.followed(self.follow)
             }
             Address::Pattern(p) => {
-                let next = self.move_on(false);
                 p.write(byte, pattern);
-                next
+                moved.followed(false)
             }
         }
     }

@@ -11,7 +11,7 @@ use Rattle.chip.specs.declared.address.Address.{Address}
 use Rattle.chip.specs.declared.address.Address.the-variants.{Display, Pattern}
 use Rattle.chip.specs.declared.registers.Registers.{Registers}
 use Rattle.mirror.specs.Answer.{numberOf}
-use Rattle.mirror.specs.Record.{recordOf}
+use Rattle.mirror.specs.Table.{recordOf}
 use Rattle.mirror.specs.declared.half.Half.{Half}
 use Rattle.mirror.specs.declared.half.Half.the-variants.{Empty, Ignored, Waiting}
 use Rattle.mirror.specs.declared.panel.Panel.{Panel}
