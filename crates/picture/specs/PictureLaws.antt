@@ -1,6 +1,6 @@
 -- What lights a dot and what does not.
 use Prim.Native.Nat.{ℕ, _-_, _/_, _%_}
-use mathlib.Core.Path.{_≡_, ap, _∙_}
+use mathlib.Core.Path.{_≡_, refl, ap, _∙_}
 use mathlib.Core.Bool.{Bool, true, false, _&&_, _||_, and-false, or-true, or-false}
 use mathlib.Core.List.{List}
 use lib.Dec.{ltb, eqb}
@@ -8,7 +8,7 @@ use lib.ListN.{getD}
 use Rattle.laws.specs.Pick.{pick}
 use Rattle.dots.specs.Bit.{bit}
 use Rattle.dots.specs.TableLaws.{table-cong}
-use Rattle.chip.specs.Sheet.{withPattern}
+use Rattle.chip.specs.Sheet.{withFunction, withPattern}
 use Rattle.chip.specs.declared.sheet.Sheet.{Sheet}
 use Rattle.picture.specs.Pattern.{tall, wide, patterns, fontStart, patternRow, glyphRow, patternOf, glyphOf, shapeOf}
 use Rattle.picture.specs.Picture.{codeAt, shapeAt, patternDot, atCursor, cursorRow, cursorDot, blinkDot, lit}
@@ -47,6 +47,11 @@ module _ (s : Sheet) (font : List ℕ) (dark : Bool) (r x : ℕ) where
   other-cells h =
       rw (h, and-false (s .registers .cursor), and-false (s .registers .blink && dark))
       (ap (λ (b : Bool). s .registers .on && b) (or-false (patternDot s font r x || false) ∙ or-false (patternDot s font r x)))
+
+  -- the low four Function Set bits light nothing
+  pub function-unseen : (n : ℕ) → lit (withFunction (s .registers .eight) n s) font dark r x ≡ lit s font dark r x
+  unfolding lit
+  function-unseen n = refl
 
   -- two sheets and fonts with the same patterns and registers light the same dots
   same-shape : (m f : List ℕ) → shapeAt s font (x / wide) ≡ shapeOf m f (codeAt s (x / wide)) → lit s font dark r x ≡ lit (withPattern m s) f dark r x
