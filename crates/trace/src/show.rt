@@ -114,7 +114,7 @@ fn show_counts(counts: [u64; 8]) {
 // The number of the answer that ended a run, where there is one.
 pub(crate) fn show_end(number: u8) {
     if number != 0 {
-        show_refusal(b"refused ", number);
+        show_number(b"refused ", number as u64);
         show(b"\n");
     }
 }
@@ -129,15 +129,10 @@ pub(crate) fn show_run(run: Run) {
     show_panel(panel);
 }
 
-fn show_refusal(label: &[u8], number: u8) {
-    show_number(label, number as u64);
-}
-
 fn show_painted(painted: Painted) {
     match painted {
         Painted::Lit(n) => show_number(b" lit ", n as u64),
-        Painted::Size => show_refusal(b" refused ", painted.refusal()),
-        Painted::Unsound => show_refusal(b" refused ", painted.refusal()),
+        _ => show_number(b" refused ", painted.refusal() as u64),
     }
 }
 
@@ -186,7 +181,7 @@ fn show_compared(compared: Compared) {
             show_number(b" ", column as u64);
         }
         Compared::Same => show(b"differ none"),
-        Compared::Size => show_refusal(b"differ refused ", compared.refusal()),
+        Compared::Size => show_number(b"differ refused ", compared.refusal() as u64),
     }
     show(b"\n");
 }

@@ -1,13 +1,12 @@
 -- The drawing and the bitmap, made of the dots of a frame (docs/WALL.md, "The print").
-use Prim.Native.Nat.{ℕ, _+_, _*_, _/_, _%_, _<_}
+use Prim.Native.Nat.{ℕ, zero, suc, _+_, _*_, _/_, _%_, _<_}
 use mathlib.Core.Path.{_≡_}
 use mathlib.Core.Bool.{Bool, _&&_}
-use mathlib.Core.List.{List}
-use lib.Dec.{leb}
-use lib.ListN.{set, replicate}
+use mathlib.Core.List.{List, [], _∷_, _++_}
+use lib.ListN.{take, replicate}
 use Rattle.laws.specs.Pick.{pick}
 use Rattle.dots.specs.Bit.{one}
-use Rattle.dots.specs.Table.{table, inOrder}
+use Rattle.dots.specs.Table.{table}
 use Rattle.desk.specs.Held.{heldOf}
 use Rattle.desk.specs.declared.bytes.Bytes.{Bytes}
 use Rattle.mirror.specs.declared.panel.Panel.{Panel}
@@ -34,37 +33,33 @@ eightOf f r x =
 abbrev pub bitmapOf : List ℕ → List ℕ
 bitmapOf f = table (λ i. eightOf f (i / 10) (i % 10 * 8)) 80
 
--- a line that is being drawn: with one byte more, where there is room
-abbrev pub lineSize : ℕ
-lineSize = 256
-
-abbrev pub withByte : ℕ → Line → Line
-withByte byte l = pick (leb lineSize (l .len)) l (record { bytes = set (l .bytes) (l .len) byte; len = l .len + 1 })
-
--- with a block of the terminal: E2h, 96h and the byte that tells which
-abbrev pub withBlock : ℕ → Line → Line
-withBlock last l = withByte last (withByte 0x96 (withByte 0xE2 l))
-
--- with a dot: # where it is lit, and a point where it is not
+-- a dot: # where it is lit, and a point where it is not
 abbrev pub markOf : Bool → ℕ
 markOf lit = pick lit 35 46
 
--- with two dots, one above the other: a full block, an upper half, a lower half, a space
-abbrev pub withPair : Bool → Bool → Line → Line
-withPair upper lower l =
-    pick (upper && lower) (withBlock 0x88 l) (pick upper (withBlock 0x80 l) (pick lower (withBlock 0x84 l) (withByte 32 l)))
+-- two dots, one above the other: a full block of the terminal, its upper half, its lower half, or a space
+abbrev pub pairOf : Bool → Bool → List ℕ
+pairOf upper lower =
+    pick (upper && lower) (0xE2 ∷ 0x96 ∷ 0x88 ∷ [])
+    (pick upper (0xE2 ∷ 0x96 ∷ 0x80 ∷ []) (pick lower (0xE2 ∷ 0x96 ∷ 0x84 ∷ []) (32 ∷ [])))
+
+-- h 0, then h 1, .., then h (n - 1)
+unfoldable pub strung : (ℕ → List ℕ) → ℕ → List ℕ
+strung h zero = []
+strung h (suc n) = strung h n ++ h n
 
 -- a line between two bars
-abbrev pub opened : Line
-opened = withByte 124 (record { bytes = replicate lineSize 0; len = 0 })
-
-abbrev pub closed : Line → Line
-closed l = withByte 10 (withByte 124 l)
+abbrev pub barred : List ℕ → List ℕ
+barred s = (124 ∷ s) ++ (124 ∷ 10 ∷ [])
 
 -- a row of dots from the left
-abbrev pub rowLine : List ℕ → ℕ → Line
-rowLine f r = closed (inOrder (λ x. withByte (markOf (litAt f r x))) (glass .cols) opened)
+abbrev pub rowBytes : List ℕ → ℕ → List ℕ
+rowBytes f r = barred (strung (λ x. markOf (litAt f r x) ∷ []) (glass .cols))
 
 -- a row of dots and the one below it
-abbrev pub pairLine : List ℕ → ℕ → Line
-pairLine f r = closed (inOrder (λ x. withPair (litAt f r x) (litAt f (r + 1) x)) (glass .cols) opened)
+abbrev pub pairBytes : List ℕ → ℕ → List ℕ
+pairBytes f r = barred (strung (λ x. pairOf (litAt f r x) (litAt f (r + 1) x)) (glass .cols))
+
+-- the bytes of a line
+abbrev pub lineBytes : Line → List ℕ
+lineBytes l = take (l .len) (l .bytes)

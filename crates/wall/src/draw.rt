@@ -1,7 +1,8 @@
 // The dots of a frame, as lines for a terminal.
 ghost use Prim.Native.Nat.{_<_};
 ghost use mathlib.Core.Path.{_≡_};
-ghost use Rattle.wall.specs.Draw.{closed, markOf, opened, pairLine, pictureOf, rowLine, withBlock, withByte, withPair};
+ghost use Rattle.wall.specs.Draw.{lineBytes, markOf, pairBytes, pictureOf, rowBytes};
+ghost use Rattle.wall.specs.Line.{closed, opened, withBlock, withByte, withPair};
 use desk::bytes::Bytes;
 use desk::bytes::held;
 use desk::print::say;
@@ -103,7 +104,7 @@ fn mark(lit: bool) -> u8
 
 // A row of dots.
 fn row_line(frame: [u8; FRAME_SIZE], row: usize) -> Line
-    ensures { λ r. ⌜ r ≡ rowLine frame row ⌝ }
+    ensures { λ r. ⌜ lineBytes r ≡ rowBytes frame row ⌝ }
 {
     let mut line = Line::open();
     for column in 0..COLUMNS {
@@ -115,7 +116,7 @@ fn row_line(frame: [u8; FRAME_SIZE], row: usize) -> Line
 // A row of dots and the one below it.
 fn pair_line(frame: [u8; FRAME_SIZE], row: usize) -> Line
     requires { ⌜ row < 8 ⌝ }
-    ensures { λ r. ⌜ r ≡ pairLine frame row ⌝ }
+    ensures { λ r. ⌜ lineBytes r ≡ pairBytes frame row ⌝ }
 {
     let mut line = Line::open();
     for column in 0..COLUMNS {

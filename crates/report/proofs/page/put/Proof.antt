@@ -1,6 +1,6 @@
 -- What is left, put on the page as it is, comes to all of it.
 use native.Mathlib.Omega.{arith}
-use Rattle.report.specs.PageLaws.{Left, left-start, left-step, left-end}
+use Rattle.report.specs.laws.PageLaws.{Left, left-start, left-step, left-end}
 use Prim.Native.Nat.{_-_, _≤_}
 use lib.ListN.{length}
 use borrow.Author.Needs.{needs}

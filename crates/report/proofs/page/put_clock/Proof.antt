@@ -2,7 +2,7 @@ use mathlib.Core.Path.{refl}
 use mathlib.Core.List.{_++_}
 use borrow.Author.Needs.{needs}
 use Rattle.report.specs.Page.{withinHour}
-use Rattle.report.specs.PageLaws.{puts-then}
+use Rattle.report.specs.laws.PageLaws.{puts-then}
 use Rattle.report.proofs.page.put_clock.Statement.{statement}
 use Rattle.report.proofs.page.put_clock.Tie as tie
 

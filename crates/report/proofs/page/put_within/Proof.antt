@@ -1,4 +1,4 @@
-use Rattle.report.specs.PageLaws.{puts-then}
+use Rattle.report.specs.laws.PageLaws.{puts-then}
 use borrow.Author.Needs.{needs}
 use Rattle.report.proofs.page.put_within.Statement.{statement}
 use Rattle.report.proofs.page.put_within.Tie as tie

@@ -1,22 +1,19 @@
 -- After as many pairs the line is as many steps on.
 use Prim.Native.Nat.{ℕ, _+_, _-_, _≤_}
 use mathlib.Core.Path.{_≡_, sym, ap, _∙_}
-use mathlib.Core.List.{List}
 use native.Mathlib.Omega.{arith}
 use Rattle.dots.specs.Table.{inOrder}
 use Rattle.dots.specs.laws.TableLaws.{in-order-none, in-order-more}
-use Rattle.picture.specs.Frame.{glass, litAt}
-use Rattle.wall.specs.Draw.{withPair, opened, closed}
-use Rattle.wall.specs.declared.draw.Line.{Line}
+use Rattle.picture.specs.Frame.{glass}
+use Rattle.wall.specs.Draw.{lineBytes}
+use Rattle.wall.specs.Line.{pairStep, opened, closed}
+use Rattle.wall.specs.laws.DrawLaws.{pair-drawn}
 use borrow.Author.Needs.{needs}
 use Rattle.wall.proofs.draw.pair_line.Statement.{statement}
 use Rattle.wall.proofs.draw.pair_line.Tie as tie
 
-abbrev step : List ℕ → ℕ → ℕ → Line → Line
-step f r x = withPair (litAt f r x) (litAt f (r + 1) x)
-
 abbrev Inv-loop : tie.InvT-loop
-Inv-loop row frame line₀ column₀ line column = (line ≡ inOrder (step frame row) column opened) × (column ≤ glass .cols)
+Inv-loop row frame line₀ column₀ line column = (line ≡ inOrder (pairStep frame row) column opened) × (column ≤ glass .cols)
 
 abbrev μ-loop : tie.MeasureT-loop
 μ-loop row frame line₀ column₀ line column = glass .cols - column
@@ -56,7 +53,7 @@ loop-again c =
     let l = c .before .before .before .before .before .before .loop in
     let a = c .before .before .before .before .before .before .before .before .args in (
       rw (c .with-pair .ensures, c .before .lit-at2 .ensures, c .before .before .before .lit-at .ensures, l .inv .0)
-          (sym (in-order-more (step (a .t1) (a .row)) (l .column) opened)),
+          (sym (in-order-more (pairStep (a .t1) (a .row)) (l .column) opened)),
       omega arith,
     )
 
@@ -68,7 +65,7 @@ returns c =
     let l = c .before .before .loop in
     let a = c .before .before .before .before .args in
     let e : l .column ≡ glass .cols = omega arith in
-    c .close .ensures ∙ ap closed (l .inv .0 ∙ ap (λ (n : ℕ). inOrder (step (a .t1) (a .row)) n opened) e)
+    ap lineBytes (c .close .ensures ∙ ap closed (l .inv .0 ∙ ap (λ (n : ℕ). inOrder (pairStep (a .t1) (a .row)) n opened) e)) ∙ pair-drawn (a .t1) (a .row)
 
 pub pair-line-spec : {M : Type 1} → statement M
 pair-line-spec =

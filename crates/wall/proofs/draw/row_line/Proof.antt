@@ -1,22 +1,19 @@
 -- After as many dots the line is as many steps on.
 use Prim.Native.Nat.{ℕ, _+_, _-_, _≤_}
 use mathlib.Core.Path.{_≡_, sym, ap, _∙_}
-use mathlib.Core.List.{List}
 use native.Mathlib.Omega.{arith}
 use Rattle.dots.specs.Table.{inOrder}
 use Rattle.dots.specs.laws.TableLaws.{in-order-none, in-order-more}
-use Rattle.picture.specs.Frame.{glass, litAt}
-use Rattle.wall.specs.Draw.{markOf, withByte, opened, closed}
-use Rattle.wall.specs.declared.draw.Line.{Line}
+use Rattle.picture.specs.Frame.{glass}
+use Rattle.wall.specs.Draw.{lineBytes}
+use Rattle.wall.specs.Line.{rowStep, opened, closed}
+use Rattle.wall.specs.laws.DrawLaws.{row-drawn}
 use borrow.Author.Needs.{needs}
 use Rattle.wall.proofs.draw.row_line.Statement.{statement}
 use Rattle.wall.proofs.draw.row_line.Tie as tie
 
-abbrev step : List ℕ → ℕ → ℕ → Line → Line
-step f r x = withByte (markOf (litAt f r x))
-
 abbrev Inv-loop : tie.InvT-loop
-Inv-loop row frame line₀ column₀ line column = (line ≡ inOrder (step frame row) column opened) × (column ≤ glass .cols)
+Inv-loop row frame line₀ column₀ line column = (line ≡ inOrder (rowStep frame row) column opened) × (column ≤ glass .cols)
 
 abbrev μ-loop : tie.MeasureT-loop
 μ-loop row frame line₀ column₀ line column = glass .cols - column
@@ -50,7 +47,7 @@ loop-again c =
     let l = c .before .before .before .before .before .loop in
     let a = c .before .before .before .before .before .before .before .args in (
       rw (c .with .ensures, c .before .mark .ensures, c .before .before .lit-at .ensures, l .inv .0)
-          (sym (in-order-more (step (a .t1) (a .row)) (l .column) opened)),
+          (sym (in-order-more (rowStep (a .t1) (a .row)) (l .column) opened)),
       omega arith,
     )
 
@@ -62,7 +59,7 @@ returns c =
     let l = c .before .before .loop in
     let a = c .before .before .before .before .args in
     let e : l .column ≡ glass .cols = omega arith in
-    c .close .ensures ∙ ap closed (l .inv .0 ∙ ap (λ (n : ℕ). inOrder (step (a .t1) (a .row)) n opened) e)
+    ap lineBytes (c .close .ensures ∙ ap closed (l .inv .0 ∙ ap (λ (n : ℕ). inOrder (rowStep (a .t1) (a .row)) n opened) e)) ∙ row-drawn (a .t1) (a .row)
 
 pub row-line-spec : {M : Type 1} → statement M
 row-line-spec =
