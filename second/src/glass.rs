@@ -87,7 +87,10 @@ pub fn example_and_edges() -> Vec<Trial> {
     let logs = [log.clone(), cut, Vec::new(), vec![12], log[..14].to_vec()];
     let mut trials = Vec::new();
     for log in logs {
-        for words in ["ascii", "pbm dark", "ascii at 0", "at 39 ascii", "at 40 pbm", "ascii at 281474976710656"] {
+        for words in [
+            "ascii", "pbm dark", "ascii at 0", "at 39 ascii", "at 40 pbm", "ascii at 281474976710656",
+            "at 000000000000000000000000000039 ascii",
+        ] {
             let groups = vec![text(words), files("font", vec![cases::wall_font()])];
             trials.push(Trial { groups, log: log.clone() });
         }
