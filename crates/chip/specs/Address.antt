@@ -53,6 +53,6 @@ abbrev pub writtenPattern : PatternAddress → ℕ → List ℕ → List ℕ
 writtenPattern p byte memory = set memory (p .0 % patternSize) (byte % 32)
 
 -- the address as a status read shows it, bits 6 to 0
-abbrev pub numberOf : Address → ℕ
-numberOf (Display d) = d .0 % displaySize
-numberOf (Pattern p) = p .0 % patternSize
+abbrev pub addressNumber : Address → ℕ
+addressNumber (Display d) = d .0 % displaySize
+addressNumber (Pattern p) = p .0 % patternSize

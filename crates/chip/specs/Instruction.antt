@@ -9,8 +9,8 @@ use Rattle.chip.specs.declared.instruction.Instruction.{Instruction}
 use Rattle.chip.specs.declared.instruction.Instruction.the-variants.{Nothing, Clear, Home, Entry, Screen, Move, Shift, Function, Set}
 
 -- the bit of a weight in a code
-abbrev pub bit : ℕ → ℕ → Bool
-bit weight code = eqb (code / weight % 2) 1
+abbrev pub isSet : ℕ → ℕ → Bool
+isSet weight code = eqb (code / weight % 2) 1
 
 -- it is 0
 abbrev pub unset : ℕ → ℕ → Bool
@@ -24,10 +24,10 @@ decoded code =
     pick (ltb code 0x01) Nothing
     (pick (ltb code 0x02) Clear
     (pick (ltb code 0x04) Home
-    (pick (ltb code 0x08) (Entry (bit 2 code) (bit 1 code))
-    (pick (ltb code 0x10) (Screen (bit 4 code) (bit 2 code) (bit 1 code))
-    (pick (ltb code 0x18) (Move (bit 4 code))
+    (pick (ltb code 0x08) (Entry (isSet 2 code) (isSet 1 code))
+    (pick (ltb code 0x10) (Screen (isSet 4 code) (isSet 2 code) (isSet 1 code))
+    (pick (ltb code 0x18) (Move (isSet 4 code))
     (pick (ltb code 0x20) (Shift (unset 4 code))
-    (pick (ltb code 0x40) (Function (bit 16 code) (code % 16))
+    (pick (ltb code 0x40) (Function (isSet 16 code) (code % 16))
     (pick (ltb code 0x80) (Set (Pattern (pattern (code % 32))))
     (Set (Display (display (code % 16))))))))))))

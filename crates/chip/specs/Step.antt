@@ -26,8 +26,8 @@ abbrev pub entered : Bool → Bool → Sheet → Sheet
 entered up follow s = withEntry up follow s
 
 -- the display bits D, C and B
-abbrev pub lit : Bool → Bool → Bool → Sheet → Sheet
-lit on cursor blink s = withScreen on cursor blink s
+abbrev pub screenSet : Bool → Bool → Bool → Sheet → Sheet
+screenSet on cursor blink s = withScreen on cursor blink s
 
 -- the address by one, within its memory
 abbrev pub stepped : Bool → Sheet → Sheet
@@ -51,7 +51,7 @@ acted Nothing s = s
 acted Clear s = cleared s
 acted Home s = homed s
 acted (Entry up follow) s = entered up follow s
-acted (Screen on cursor blink) s = lit on cursor blink s
+acted (Screen on cursor blink) s = screenSet on cursor blink s
 acted (Move up) s = stepped up s
 acted (Shift left) s = shifted left s
 acted (Function eight bits) s = functionSet eight bits s

@@ -3,7 +3,7 @@
 ghost use mathlib.Core.Path.{_≡_};
 ghost use Prim.Native.Nat.{_+_};
 ghost use Rattle.laws.specs.Ring.{moved};
-ghost use Rattle.chip.specs.Address.{movedDisplay, movedPattern, movedAddress, readDisplay, writtenDisplay, readPattern, writtenPattern, numberOf};
+ghost use Rattle.chip.specs.Address.{movedDisplay, movedPattern, movedAddress, readDisplay, writtenDisplay, readPattern, writtenPattern, addressNumber};
 
 // How many places each memory has.
 pub const DISPLAY_SIZE: usize = 16;
@@ -80,7 +80,7 @@ impl PatternAddress {
 impl Address {
     // The address as a status read shows it.
     pub fn number(self) -> u8
-        ensures { λ r. ⌜ r ≡ numberOf self ⌝ }
+        ensures { λ r. ⌜ r ≡ addressNumber self ⌝ }
     {
         match self {
             Address::Display(d) => (d.0 as usize % DISPLAY_SIZE) as u8,

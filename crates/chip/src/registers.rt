@@ -2,7 +2,7 @@
 // copied; together with the memories as they then stand, the answer is the meaning's step of the whole sheet.
 ghost use mathlib.Core.Path.{_≡_};
 ghost use Rattle.chip.specs.Sheet.{Starts, Steps, StepsDisplay, StepsBoth, freshSheet, readHere};
-ghost use Rattle.chip.specs.Step.{cleared, homed, entered, lit, stepped, shifted, functionSet, addressSet, followed, written, passed, acted, obeyed};
+ghost use Rattle.chip.specs.Step.{cleared, homed, entered, screenSet, stepped, shifted, functionSet, addressSet, followed, written, passed, acted, obeyed};
 use crate::address::Address;
 use crate::address::DISPLAY_SIZE;
 use crate::address::DisplayAddress;
@@ -80,7 +80,7 @@ impl Registers {
     }
 
     pub fn screen(self, on: bool, cursor: bool, blink: bool) -> Registers
-        ensures { λ r. ⌜ Steps (lit on cursor blink) self r ⌝ }
+        ensures { λ r. ⌜ Steps (screenSet on cursor blink) self r ⌝ }
     {
         Registers {
             on,

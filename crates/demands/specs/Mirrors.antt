@@ -29,17 +29,17 @@ ours p bytes = outOf (recordOf p bytes)
 
 -- what striking does by an answer: taken stays, and its first half with it; held waits; back and bad go, and a half that waits goes on
 -- waiting; the rest go, and the first half with them. No record of a log is answered cut or unsound
-abbrev pub sortOf : Answer → Sort
-sortOf Taken = sorted stays keeps
-sortOf Held = sorted waits leaves
-sortOf Status = sorted goes strikes
-sortOf Ignored = sorted goes strikes
-sortOf Torn = sorted goes strikes
-sortOf Back = sorted goes leaves
-sortOf Bad = sorted goes leaves
-sortOf Nothing = sorted goes strikes
-sortOf Cut = sorted goes leaves
-sortOf Unsound = sorted goes leaves
+abbrev pub sortFor : Answer → Sort
+sortFor Taken = sorted stays keeps
+sortFor Held = sorted waits leaves
+sortFor Status = sorted goes strikes
+sortFor Ignored = sorted goes strikes
+sortFor Torn = sorted goes strikes
+sortFor Back = sorted goes leaves
+sortFor Bad = sorted goes leaves
+sortFor Nothing = sorted goes strikes
+sortFor Cut = sorted goes leaves
+sortFor Unsound = sorted goes leaves
 
 -- all of a panel but its last time and its waiting half: the sheet, the busy end, and whatever else there is
 abbrev pub settledPanel : Panel → Panel
@@ -47,4 +47,4 @@ settledPanel p = holding 0 Empty p
 
 -- a mirror as a machine that reads the records' bytes
 abbrev pub machineOf : Mirror → Machine Panel (List ℕ) Reply
-machineOf m = record { step = m; sort = λ bytes r. sortOf (r .answer); bare = settledPanel; Idle = λ p. p .half ≡ Empty }
+machineOf m = record { step = m; sort = λ bytes r. sortFor (r .answer); bare = settledPanel; Idle = λ p. p .half ≡ Empty }

@@ -8,7 +8,7 @@ use Rattle.dots.specs.Landing.{countOf}
 use Rattle.mirror.specs.Panel.{soundPanel}
 use Rattle.mirror.specs.declared.panel.Panel.{Panel}
 use Rattle.picture.specs.Frame.{glass}
-use Rattle.picture.specs.Paint.{paper}
+use Rattle.picture.specs.Paint.{paintPaper}
 use Rattle.picture.specs.Pattern.{fontSize}
 use Rattle.picture.specs.Picture.{lit}
 use Rattle.picture.specs.declared.paint.Painted.{Painted}
@@ -21,4 +21,4 @@ Painter = Panel → List ℕ → Bool → List ℕ → Painted
 abbrev pub CountsDots : Painter → Type 0
 CountsDots painter =
     (p : Panel) (font : List ℕ) (dark : Bool) (frame : List ℕ) → soundPanel p ≡ true → length font ≡ fontSize → length frame ≡ glass .size →
-    paper (painter p font dark frame) .dots ≡ countOf glass (lit (p .sheet) font dark)
+    paintPaper (painter p font dark frame) .dots ≡ countOf glass (lit (p .sheet) font dark)

@@ -29,10 +29,10 @@ matching (Ignored r w) rs reads = Bool·beq r rs && Bool·beq w reads
 matching (Waiting r w nibble) rs reads = Bool·beq r rs && Bool·beq w reads
 
 -- the chip was busy as the transfer began: for a second half, as its first half came
-abbrev pub busyAt : Half → Bool → Bool
-busyAt Empty free = not free
-busyAt (Ignored r w) free = true
-busyAt (Waiting r w nibble) free = false
+abbrev pub begunBusy : Half → Bool → Bool
+begunBusy Empty free = not free
+begunBusy (Ignored r w) free = true
+begunBusy (Waiting r w nibble) free = false
 
 -- DEMAND 2, THE BUSY RULE: a usable write or data read is ignored exactly when the chip was busy as it began
 abbrev pub IgnoresBusy : Mirror → Type 0
@@ -40,7 +40,7 @@ IgnoresBusy m =
     (p : Panel) (bytes : List ℕ) (time : ℕ) (rs reads : Bool) (bus : ℕ) →
     soundPanel p ≡ true → frameOf bytes ≡ Transfer time rs reads bus → p .last ≤ time →
     (rs || not reads) ≡ true → matching (p .half) rs reads ≡ true →
-    eqb (numberOf (m p bytes .answer .answer)) 3 ≡ busyAt (p .half) (free time p)
+    eqb (numberOf (m p bytes .answer .answer)) 3 ≡ begunBusy (p .half) (free time p)
 
 -- a transfer is complete: whole at width 8, and at width 4 the second half of a pair
 abbrev pub complete : Bool → Half → Bool
@@ -50,11 +50,11 @@ complete eight (Waiting r w nibble) = true
 
 -- what a transfer has to do to the sheet: its entry where it is complete, matches and was not begun while busy, and else nothing
 abbrev pub entriesAt : Bool → Half → Bool → Bool → Bool → ℕ → List Entry
-entriesAt eight h free rs reads bus = pick (not (busyAt h free) && complete eight h && matching h rs reads) (entryOf rs reads (joinedOf eight h bus)) []
+entriesAt eight h free rs reads bus = pick (not (begunBusy h free) && complete eight h && matching h rs reads) (entryOf rs reads (joinedOf eight h bus)) []
 
 -- DEMAND 2, THE STEPS: each transfer does to the sheet what the steps say, and nothing else
-abbrev pub Steps : Mirror → Type 0
-Steps m =
+abbrev pub DoesSteps : Mirror → Type 0
+DoesSteps m =
     (p : Panel) (bytes : List ℕ) (time : ℕ) (rs reads : Bool) (bus : ℕ) →
     soundPanel p ≡ true → frameOf bytes ≡ Transfer time rs reads bus → p .last ≤ time →
     m p bytes .state .sheet ≡ carriedAll (entriesAt (p .sheet .registers .eight) (p .half) (free time p) rs reads bus) (p .sheet)

@@ -18,12 +18,12 @@ use Rattle.demands.specs.Mirrors.{Reply, Mirror, ours, settledPanel, mac
 use Rattle.demands.specs.Answers.{answersBy, panelBy}
 
 -- the records that stay, with what they were told: read off the log and its answers alone
-abbrev pub keptBy : Mirror → Panel → List ℕ → List (Answered (List ℕ) Reply)
-keptBy m p log = unstruck (machineOf m .sort) (answersBy m p log)
+abbrev pub stayed : Mirror → Panel → List ℕ → List (Answered (List ℕ) Reply)
+stayed m p log = unstruck (machineOf m .sort) (answersBy m p log)
 
 -- the struck log: the bytes of these records, one after another
 abbrev pub struckLog : Mirror → Panel → List ℕ → List ℕ
-struckLog m p log = joined (events (keptBy m p log))
+struckLog m p log = joined (events (stayed m p log))
 
 -- the records answered taken
 abbrev pub takens : List (Answered (List ℕ) Reply) → List (Answered (List ℕ) Reply)
@@ -38,15 +38,15 @@ TakenOrHeld (a ∷ rest) = (numberOf (a .answer .answer) ≤ 1) × TakenOrHeld r
 -- What is claimed of striking a log that is answered from p on
 pub record StruckFrom (m : Mirror) (p : Panel) (log : List ℕ) : Type 0 where
   -- all that was taken stays, and of the rest only first halves that were held
-  pub taken : takens (keptBy m p log) ≡ takens (answersBy m p log)
-  pub others : TakenOrHeld (keptBy m p log)
+  pub taken : takens (stayed m p log) ≡ takens (answersBy m p log)
+  pub others : TakenOrHeld (stayed m p log)
   -- reading the struck log gives the records that stay, and no tail
-  pub records : frames (struckLog m p log) ≡ events (keptBy m p log)
+  pub records : frames (struckLog m p log) ≡ events (stayed m p log)
   pub whole : tail (struckLog m p log) ≡ []
   -- they are records of the log: none is added, changed or moved
   pub in-order : Sublistᴰ (frames (struckLog m p log)) (frames log)
   -- every record that stays is answered as before, with the same byte read
-  pub answers : answersBy m p (struckLog m p log) ≡ keptBy m p log
+  pub answers : answersBy m p (struckLog m p log) ≡ stayed m p log
   -- at the end the last time and the waiting half may differ; nothing else does
   pub panel : settledPanel (panelBy m p (struckLog m p log)) ≡ settledPanel (panelBy m p log)
   -- striking twice is striking once

@@ -31,6 +31,6 @@ abbrev pub numberAfter : ℕ → List ℕ → ℕ → Number
 numberAfter v s most = pick (allDigits s) (pick (ltb most (valueAfter v s)) none (some (valueAfter v s))) none
 
 -- a word without a digit is no number
-unfoldable pub numberOf : List ℕ → ℕ → Number
-numberOf [] most = none
-numberOf (b ∷ s) most = numberAfter 0 (b ∷ s) most
+unfoldable pub decimalOf : List ℕ → ℕ → Number
+decimalOf [] most = none
+decimalOf (b ∷ s) most = numberAfter 0 (b ∷ s) most

@@ -1,7 +1,7 @@
 // Decimal numbers among the arguments.
 ghost use Prim.Native.Nat.{_≤_};
 ghost use mathlib.Core.Path.{_≡_};
-ghost use Rattle.desk.specs.Number.{numberOf};
+ghost use Rattle.desk.specs.Number.{decimalOf};
 ghost use Rattle.desk.specs.laws.NumberLaws.{thenOf};
 
 // A number; not ok where there is none, and then its value is 0.
@@ -40,7 +40,7 @@ fn then(value: u64, digit: u8, most: u64) -> Number
 
 // The number that a word writes: decimal digits alone, at least one, and at most `most`.
 pub fn number_of(word: &[u8], most: u64) -> Number
-    ensures { λ r. ⌜ r ≡ numberOf (now (word .entry)) most ⌝ }
+    ensures { λ r. ⌜ r ≡ decimalOf (now (word .entry)) most ⌝ }
 {
     if word.len() == 0 {
         return NONE;

@@ -37,8 +37,8 @@ abbrev pub dot : Landing → List ℕ → ℕ → ℕ → ℕ
 dot L f r x = bit (getD f (L .byteAt r x) 0) (L .bitAt r x)
 
 -- the frame whose lit dots are g's: 0 in every bit that is no dot's
-unfoldable pub frameOf : Landing → (ℕ → ℕ → Bool) → List ℕ
-frameOf L g = table (λ b. pack (λ i. one (L .used b i && g (L .rowAt b i) (L .colAt b i))) 8) (L .size)
+unfoldable pub dotsFrame : Landing → (ℕ → ℕ → Bool) → List ℕ
+dotsFrame L g = table (λ b. pack (λ i. one (L .used b i && g (L .rowAt b i) (L .colAt b i))) 8) (L .size)
 
 -- how many of g's dots are lit
 unfoldable pub countOf : Landing → (ℕ → ℕ → Bool) → ℕ

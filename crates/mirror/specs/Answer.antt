@@ -31,17 +31,17 @@ answerOf n =
     (pick (eqb n 8) Cut Unsound))))))))
 
 -- the byte that an answer carries: the byte read for reads answered 0, 1 or 2
-abbrev pub carried : Answer → ℕ → ℕ
-carried Taken byte = byte
-carried Held byte = byte
-carried Status byte = byte
-carried Ignored byte = 0
-carried Torn byte = 0
-carried Back byte = 0
-carried Bad byte = 0
-carried Nothing byte = 0
-carried Cut byte = 0
-carried Unsound byte = 0
+abbrev pub busByte : Answer → ℕ → ℕ
+busByte Taken byte = byte
+busByte Held byte = byte
+busByte Status byte = byte
+busByte Ignored byte = 0
+busByte Torn byte = 0
+busByte Back byte = 0
+busByte Bad byte = 0
+busByte Nothing byte = 0
+busByte Cut byte = 0
+busByte Unsound byte = 0
 
 -- what the paper says of an answer: its number and its bus byte
 pub record Paper : Type 0 where
@@ -49,4 +49,4 @@ pub record Paper : Type 0 where
   pub byte : ℕ
 
 abbrev pub paper : Answer → ℕ → Paper
-paper answer byte = record { number = numberOf answer; byte = carried answer byte }
+paper answer byte = record { number = numberOf answer; byte = busByte answer byte }

@@ -8,84 +8,84 @@ use lib.Dec.{ltb, eqb}
 use Rattle.laws.specs.Pick.{pick}
 use Rattle.log.specs.Frame.{timeOf, dataOf, rsOf, rwOf, isTransfer, isReset, cutAt, badAt}
 use Rattle.log.specs.Frames.{frames}
-use Rattle.chip.specs.Instruction.{bit}
+use Rattle.chip.specs.Instruction.{isSet}
 use Rattle.mirror.specs.Panel.{freshPanel}
 use Rattle.mirror.specs.Table.{isStatus}
 use Rattle.mirror.specs.Answers.{answerTo, panelAfter, clocked, Typed}
 use Rattle.mirror.specs.declared.panel.Panel.{Panel}
 
 -- a record's bytes, the number that it is answered with, and the busy end and last time of the panel before it
-pub record Entry : Type 0 where
+pub record Noted : Type 0 where
   pub bytes : List ℕ
   pub number : ℕ
   pub until : ℕ
   pub last : ℕ
 
-abbrev pub entryOf : Panel → List ℕ → Entry
-entryOf p log = record { bytes = log; number = answerTo p log; until = p .busy; last = p .last }
+abbrev pub notedAs : Panel → List ℕ → Noted
+notedAs p log = record { bytes = log; number = answerTo p log; until = p .busy; last = p .last }
 
 -- records that follow each other
-abbrev pub entriesFrom : Panel → List (List ℕ) → List Entry
-entriesFrom p [] = []
-entriesFrom p (f ∷ fs) = entryOf p f ∷ entriesFrom (panelAfter p f) fs
+abbrev pub notedFrom : Panel → List (List ℕ) → List Noted
+notedFrom p [] = []
+notedFrom p (f ∷ fs) = notedAs p f ∷ notedFrom (panelAfter p f) fs
 
 -- the first half that is open, if any
 pub data Open : Type 0 where
   none : Open
-  first : Entry → Open
+  first : Noted → Open
 
 -- the transfer that an entry began with: the first half that is open, or itself
-abbrev pub begunBy : Open → Entry → Entry
+abbrev pub begunBy : Open → Noted → Noted
 begunBy none e = e
 begunBy (first f) e = f
 
 -- the byte of a write: whole, or joined of the two halves
-abbrev pub byteBy : Open → Entry → ℕ
+abbrev pub byteBy : Open → Noted → ℕ
 byteBy none e = dataOf (e .bytes)
 byteBy (first f) e = dataOf (f .bytes) / 16 * 16 + dataOf (e .bytes) / 16
 
 -- Function Set, 20h to 3Fh: bit 4 gives width 8 if 1
 abbrev pub widthBy : ℕ → Bool → Bool
-widthBy byte eight = pick (ltb byte 0x20) eight (pick (ltb byte 0x40) (bit 16 byte) eight)
+widthBy byte eight = pick (ltb byte 0x20) eight (pick (ltb byte 0x40) (isSet 16 byte) eight)
 
 -- the width afterwards: a taken reset gives width 8, a taken instruction what its byte says
-abbrev pub widthAfter : Bool → Open → Entry → Bool
+abbrev pub widthAfter : Bool → Open → Noted → Bool
 widthAfter eight o e =
     pick (not (eqb (e .number) 0)) eight
     (pick (isReset (e .bytes)) true
     (pick (rsOf (e .bytes) || rwOf (e .bytes)) eight (widthBy (byteBy o e) eight)))
 
 -- an entry that is a first half: held or ignored at width 4, where none is open
-abbrev pub opens : Bool → Open → Entry → Bool
+abbrev pub opens : Bool → Open → Noted → Bool
 opens eight none e = (eqb (e .number) 1 || eqb (e .number) 3) && not eight
 opens eight (first f) e = false
 
 -- which first half is open afterwards: bad and back records may stand between the halves, every other ends the pair
-abbrev pub openAfter : Bool → Open → Entry → Open
+abbrev pub openAfter : Bool → Open → Noted → Open
 openAfter eight o e = pick (not (clocked (e .number))) o (pick (opens eight o e) (first e) none)
 
 -- busy: a time below the busy end
-abbrev pub wasBusy : Entry → Bool
+abbrev pub wasBusy : Noted → Bool
 wasBusy e = ltb (timeOf (e .bytes)) (e .until)
 
 -- answered 3 exactly when the chip was busy: the entry, and the first half that it began with
-pub record Decided (begun e : Entry) : Type 0 where
+pub record Decided (begun e : Noted) : Type 0 where
   pub own : eqb (e .number) 3 ≡ wasBusy begun
   pub began : eqb (begun .number) 3 ≡ wasBusy begun
 
 -- whole, or matching the first half that is open in RS and R/W
-abbrev pub matches : Open → Entry → Bool
+abbrev pub matches : Open → Noted → Bool
 matches none e = true
 matches (first f) e = Bool·beq (rsOf (f .bytes)) (rsOf (e .bytes)) && Bool·beq (rwOf (f .bytes)) (rwOf (e .bytes))
 
 -- a usable write or data read, whatever it is answered: a good record, in time, no status read, whole or matching
-abbrev pub isUsable : Open → Entry → Bool
+abbrev pub isUsable : Open → Noted → Bool
 isUsable o e =
     not (cutAt (e .bytes)) && not (badAt (e .bytes)) && isTransfer (e .bytes) && not (ltb (timeOf (e .bytes)) (e .last)) && not (isStatus (e .bytes))
     && matches o e
 
 -- so for every such entry, read from a width and an open first half on
-abbrev pub AllDecided : Bool → Open → List Entry → Type 0
+abbrev pub AllDecided : Bool → Open → List Noted → Type 0
 AllDecided eight o [] = Unit {0}
 AllDecided eight o (e ∷ es) =
     (isUsable o e ≡ true → Decided (begunBy o e) e) × AllDecided (widthAfter eight o e) (openAfter eight o e) es
@@ -93,4 +93,4 @@ AllDecided eight o (e ∷ es) =
 -- and so for every log from a fresh panel, at width 8 with no half open
 abbrev pub IgnoredExactlyWhenBusy : Type 0
 IgnoredExactlyWhenBusy =
-    (reset long short : ℕ) (log : List ℕ) → Typed reset long short log → AllDecided true none (entriesFrom (freshPanel reset long short) (frames log))
+    (reset long short : ℕ) (log : List ℕ) → Typed reset long short log → AllDecided true none (notedFrom (freshPanel reset long short) (frames log))

@@ -3,7 +3,7 @@ use Prim.Native.Nat.{ℕ, _+_, _*_, _%_, _/_}
 use mathlib.Core.Bool.{Bool}
 use lib.Dec.{leb}
 use Rattle.laws.specs.Pick.{pick}
-use Rattle.chip.specs.Address.{numberOf}
+use Rattle.chip.specs.Address.{addressNumber}
 use Rattle.chip.specs.Sheet.{readHere}
 use Rattle.chip.specs.declared.sheet.Sheet.{Sheet}
 use Rattle.mirror.specs.declared.half.Half.{Half}
@@ -17,7 +17,7 @@ free time p = leb (p .busy) time
 -- a status read: bit 7 is 1 while busy, bits 6 to 0 are the address
 abbrev pub statusOf : ℕ → Panel → ℕ
 statusOf time p =
-    let n = numberOf (p .sheet .registers .address) in
+    let n = addressNumber (p .sheet .registers .address) in
     pick (free time p) n (128 + n)
 
 -- the byte at the address

@@ -15,25 +15,25 @@ use Rattle.picture.specs.declared.compare.Compared.{Compared}
 use Rattle.picture.specs.declared.compare.Compared.the-variants.{At, Same, Size}
 
 -- this paper's number of an answer, none where nothing was refused, and the place found, by row and column
-pub record Paper : Type 0 where
+pub record ComparePaper : Type 0 where
   pub number : Option ℕ
   pub place : Option (ℕ × ℕ)
 
-abbrev pub paper : Compared → Paper
-paper (At r x) = record { number = none; place = some (r, x) }
-paper Same = record { number = none; place = none }
-paper Size = record { number = some 9; place = none }
+abbrev pub comparePaper : Compared → ComparePaper
+comparePaper (At r x) = record { number = none; place = some (r, x) }
+comparePaper Same = record { number = none; place = none }
+comparePaper Size = record { number = some 9; place = none }
 
-abbrev pub refusalOf : Compared → ℕ
-refusalOf answer = numbered (paper answer .number)
+abbrev pub compareRefusal : Compared → ℕ
+compareRefusal answer = numbered (comparePaper answer .number)
 
 -- the two frames differ at the dot (r, x)
 abbrev pub differ : List ℕ → List ℕ → ℕ → ℕ → Bool
 differ a b r x = not (eqb (dot glass a r x) (dot glass b r x))
 
 -- the number by the paper's tests: 9 for a size, and none otherwise
-abbrev pub numberFor : List ℕ → List ℕ → Option ℕ
-numberFor a b = pick (not (eqb (length a) (glass .size))) (some 9) (pick (not (eqb (length b) (glass .size))) (some 9) none)
+abbrev pub compareNumber : List ℕ → List ℕ → Option ℕ
+compareNumber a b = pick (not (eqb (length a) (glass .size))) (some 9) (pick (not (eqb (length b) (glass .size))) (some 9) none)
 
 -- a refused comparison reports no place, any other the first dot, by rows, at which the frames differ, where there is one
 abbrev pub placeFor : Option ℕ → List ℕ → List ℕ → Option (ℕ × ℕ)
@@ -49,7 +49,7 @@ comparedOf a b =
 -- all that a comparison says: the answer, and its number and place on paper
 pub record Compares (a b : List ℕ) (answer : Compared) : Type 0 where
   pub told : answer ≡ comparedOf a b
-  pub paper : paper answer ≡ record { number = numberFor a b; place = placeFor (numberFor a b) a b }
+  pub paper : comparePaper answer ≡ record { number = compareNumber a b; place = placeFor (compareNumber a b) a b }
 
 -- the first dot, by rows, at which the frames differ
 pub record FirstDifference (a b : List ℕ) (r x : ℕ) : Type 0 where

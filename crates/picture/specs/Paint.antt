@@ -7,7 +7,7 @@ use mathlib.Core.Option.{Option, none, some}
 use lib.Dec.{eqb}
 use lib.ListN.{length}
 use Rattle.laws.specs.Pick.{pick}
-use Rattle.dots.specs.Landing.{frameOf, countOf}
+use Rattle.dots.specs.Landing.{dotsFrame, countOf}
 use Rattle.mirror.specs.Panel.{soundPanel}
 use Rattle.mirror.specs.declared.panel.Panel.{Panel}
 use Rattle.picture.specs.Pattern.{fontSize}
@@ -18,21 +18,21 @@ use Rattle.picture.specs.declared.paint.Painted.{Painted}
 use Rattle.picture.specs.declared.paint.Painted.the-variants.{Lit, Size, Unsound}
 
 -- this paper's number of an answer, none where nothing was refused, and its lit dots
-pub record Paper : Type 0 where
+pub record PaintPaper : Type 0 where
   pub number : Option ℕ
   pub dots : ℕ
 
-abbrev pub paper : Painted → Paper
-paper (Lit n) = record { number = none; dots = n }
-paper Size = record { number = some 9; dots = 0 }
-paper Unsound = record { number = some 10; dots = 0 }
+abbrev pub paintPaper : Painted → PaintPaper
+paintPaper (Lit n) = record { number = none; dots = n }
+paintPaper Size = record { number = some 9; dots = 0 }
+paintPaper Unsound = record { number = some 10; dots = 0 }
 
-abbrev pub refusalOf : Painted → ℕ
-refusalOf answer = numbered (paper answer .number)
+abbrev pub paintRefusal : Painted → ℕ
+paintRefusal answer = numbered (paintPaper answer .number)
 
 -- the number by the paper's tests: 10 for a panel that is not sound, then 9 for a size, and none otherwise
-abbrev pub numberFor : Panel → List ℕ → List ℕ → Option ℕ
-numberFor panel font frame =
+abbrev pub paintNumber : Panel → List ℕ → List ℕ → Option ℕ
+paintNumber panel font frame =
     pick (not (soundPanel panel)) (some 10)
     (pick (not (eqb (length font) fontSize)) (some 9) (pick (not (eqb (length frame) (glass .size))) (some 9) none))
 
@@ -53,10 +53,10 @@ abbrev pub frameAfter : Panel → List ℕ → Bool → List ℕ → List ℕ
 frameAfter panel font dark frame =
     pick (not (soundPanel panel)) frame
     (pick (not (eqb (length font) fontSize)) frame
-    (pick (not (eqb (length frame) (glass .size))) frame (frameOf glass (lit (panel .sheet) font dark))))
+    (pick (not (eqb (length frame) (glass .size))) frame (dotsFrame glass (lit (panel .sheet) font dark))))
 
 -- all that a painting says and does: the answer, its number and lit dots on paper, and the frame afterwards
 pub record Paints (panel : Panel) (font : List ℕ) (dark : Bool) (before : List ℕ) (answer : Painted) (after : List ℕ) : Type 0 where
   pub told : answer ≡ paintedOf panel font dark before
-  pub paper : paper answer ≡ record { number = numberFor panel font before; dots = dotsFor (numberFor panel font before) panel font dark }
+  pub paper : paintPaper answer ≡ record { number = paintNumber panel font before; dots = dotsFor (paintNumber panel font before) panel font dark }
   pub left : after ≡ frameAfter panel font dark before

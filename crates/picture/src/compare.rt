@@ -1,6 +1,6 @@
 // The comparison of two frames.
 ghost use mathlib.Core.Path.{_≡_};
-ghost use Rattle.picture.specs.Compare.{Compares, refusalOf};
+ghost use Rattle.picture.specs.Compare.{Compares, compareRefusal};
 use crate::frame::COLUMNS;
 use crate::frame::FRAME_SIZE;
 use crate::frame::ROWS;
@@ -18,7 +18,7 @@ pub enum Compared {
 impl Compared {
     // This paper's number of a refusal, 0 where nothing was refused.
     pub fn refusal(self) -> u8
-        ensures { λ r. ⌜ r ≡ refusalOf self ⌝ }
+        ensures { λ r. ⌜ r ≡ compareRefusal self ⌝ }
     {
         match self {
             Compared::At { row: _, column: _ } => 0,

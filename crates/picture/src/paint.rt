@@ -6,7 +6,7 @@ ghost use Rattle.picture.specs.Pattern.{tall, wide, fontSize, patternsOf
 ghost use Rattle.picture.specs.Frame.{across, glass};
 ghost use Rattle.dots.specs.Table.{sum};
 ghost use Rattle.picture.specs.engine.Shown.{PutsCell, PutsLine, PutsRow, rowDot, shapeFrom, shownOf};
-ghost use Rattle.picture.specs.Paint.{Paints, refusalOf};
+ghost use Rattle.picture.specs.Paint.{Paints, paintRefusal};
 use crate::cursor::position;
 use crate::frame::FRAME_SIZE;
 use crate::frame::clear;
@@ -37,7 +37,7 @@ pub enum Painted {
 impl Painted {
     // This paper's number of a refusal, 0 where nothing was refused.
     pub fn refusal(self) -> u8
-        ensures { λ r. ⌜ r ≡ refusalOf self ⌝ }
+        ensures { λ r. ⌜ r ≡ paintRefusal self ⌝ }
     {
         match self {
             Painted::Lit(_) => 0,

@@ -52,8 +52,8 @@ abbrev pub halfIn : ℕ → Bool → Bool → ℕ → Half
 halfIn kind rs reads nibble = pick (eqb kind 1) (Ignored rs reads) (pick (eqb kind 2) (Waiting rs reads nibble) Empty)
 
 -- 58 to 63, three times of two bytes: reset, long, short; 64 to 71, busy end; 72 to 79, last time
-abbrev pub panelIn : List ℕ → Panel
-panelIn b = record {
+abbrev pub filePanel : List ℕ → Panel
+filePanel b = record {
   sheet = record { registers = registersIn b; display = displayIn b; pattern = patternIn b };
   busy = num64 b 64;
   half = halfIn (byteIn b 80) (boolIn b 81) (boolIn b 82) (byteIn b 83);
@@ -70,10 +70,10 @@ bitsFit b =
     (eqb (byteIn b 56) 8 || eqb (byteIn b 56) 4) && isBool b 48 && isBool b 51 && isBool b 52 && isBool b 53 && isBool b 54 && isBool b 55
 
 -- RS, R/W and nibble 0 where none waits, the nibble 0 where it is ignored
-abbrev pub halfFits : ℕ → ℕ → ℕ → ℕ → Bool
-halfFits kind rs reads nibble =
+abbrev pub halfHolds : ℕ → ℕ → ℕ → ℕ → Bool
+halfHolds kind rs reads nibble =
     pick (eqb kind 0) (eqb rs 0 && eqb reads 0 && eqb nibble 0)
     (pick (eqb kind 1) (ltb rs 2 && ltb reads 2 && eqb nibble 0) (pick (eqb kind 2) (ltb rs 2 && ltb reads 2) false))
 
 abbrev pub fitsIn : List ℕ → Bool
-fitsIn b = bitsFit b && halfFits (byteIn b 80) (byteIn b 81) (byteIn b 82) (byteIn b 83)
+fitsIn b = bitsFit b && halfHolds (byteIn b 80) (byteIn b 81) (byteIn b 82) (byteIn b 83)

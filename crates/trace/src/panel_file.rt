@@ -2,7 +2,7 @@
 ghost use Prim.Native.Nat.{_<_};
 ghost use mathlib.Core.Path.{_≡_};
 ghost use Rattle.log.specs.engine.Reading.{Byte, Num16, Num64};
-ghost use Rattle.trace.specs.PanelFile.{addressIn, bitsFit, displayIn, fitsIn, halfFits, halfIn, panelIn, patternIn, registersIn};
+ghost use Rattle.trace.specs.PanelFile.{addressIn, bitsFit, displayIn, fitsIn, halfHolds, halfIn, filePanel, patternIn, registersIn};
 use chip::address::Address;
 use chip::address::DISPLAY_SIZE;
 use chip::address::DisplayAddress;
@@ -55,7 +55,7 @@ fn bits_fit(b: [u8; ROOM]) -> bool
 
 // Whether a half's bytes are ones that the types can hold: no field where none waits, no nibble where it is ignored.
 fn half_fits(kind: u8, rs: u8, rw: u8, nibble: u8) -> bool
-    ensures { λ r. ⌜ r ≡ halfFits kind rs rw nibble ⌝ }
+    ensures { λ r. ⌜ r ≡ halfHolds kind rs rw nibble ⌝ }
 {
     match kind {
         0 => (rs == 0) & (rw == 0) & (nibble == 0),
@@ -129,7 +129,7 @@ fn registers_of(bytes: [u8; ROOM]) -> Registers
 
 // The panel that bytes which fit hold, sound or not.
 pub(crate) fn panel_of(bytes: [u8; ROOM]) -> Panel
-    ensures { λ r. ⌜ r ≡ panelIn bytes ⌝ }
+    ensures { λ r. ⌜ r ≡ filePanel bytes ⌝ }
 {
     Panel {
         sheet: Sheet {

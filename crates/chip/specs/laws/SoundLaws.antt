@@ -15,8 +15,8 @@ use Rattle.laws.specs.laws.PickLaws.{past}
 use Rattle.laws.specs.laws.RingLaws.{moved-below}
 use Rattle.chip.specs.Address.{displaySize, patternSize, display, pattern, movedAddress}
 use Rattle.chip.specs.Sheet.{freshSheet}
-use Rattle.chip.specs.Instruction.{bit, unset, decoded}
-use Rattle.chip.specs.Step.{homed, cleared, entered, lit, stepped, shifted, functionSet, addressSet, acted, obeyed, storedAt, followed, shiftsAt, written, passed}
+use Rattle.chip.specs.Instruction.{isSet, unset, decoded}
+use Rattle.chip.specs.Step.{homed, cleared, entered, screenSet, stepped, shifted, functionSet, addressSet, acted, obeyed, storedAt, followed, shiftsAt, written, passed}
 use Rattle.chip.specs.Sound.{addressFits, patternFits, soundSheet}
 use Rattle.chip.specs.declared.address.Address.{Address}
 use Rattle.chip.specs.declared.address.Address.the-variants.{Display, Pattern}
@@ -89,7 +89,7 @@ cleared-sound s h = record { address = refl; shift = omega arith; function = h .
 pub entered-sound : (up follow : Bool) (s : Sheet) → Sound s → Sound (entered up follow s)
 entered-sound up follow s h = record { address = h .address; shift = h .shift; function = h .function; entries = h .entries }
 
-pub lit-sound : (on cursor blink : Bool) (s : Sheet) → Sound s → Sound (lit on cursor blink s)
+pub lit-sound : (on cursor blink : Bool) (s : Sheet) → Sound s → Sound (screenSet on cursor blink s)
 lit-sound on cursor blink s h = record { address = h .address; shift = h .shift; function = h .function; entries = h .entries }
 
 pub stepped-sound : (up : Bool) (s : Sheet) → Sound s → Sound (stepped up s)
@@ -114,11 +114,11 @@ decoded-fits code =
     by (ltb code 0x01) (plain Nothing (λ s h. h))
     (by (ltb code 0x02) (plain Clear cleared-sound)
     (by (ltb code 0x04) (plain Home homed-sound)
-    (by (ltb code 0x08) (plain (Entry (bit 2 code) (bit 1 code)) (entered-sound (bit 2 code) (bit 1 code)))
-    (by (ltb code 0x10) (plain (Screen (bit 4 code) (bit 2 code) (bit 1 code)) (lit-sound (bit 4 code) (bit 2 code) (bit 1 code)))
-    (by (ltb code 0x18) (plain (Move (bit 4 code)) (stepped-sound (bit 4 code)))
+    (by (ltb code 0x08) (plain (Entry (isSet 2 code) (isSet 1 code)) (entered-sound (isSet 2 code) (isSet 1 code)))
+    (by (ltb code 0x10) (plain (Screen (isSet 4 code) (isSet 2 code) (isSet 1 code)) (lit-sound (isSet 4 code) (isSet 2 code) (isSet 1 code)))
+    (by (ltb code 0x18) (plain (Move (isSet 4 code)) (stepped-sound (isSet 4 code)))
     (by (ltb code 0x20) (plain (Shift (unset 4 code)) (shifted-sound (unset 4 code)))
-    (by (ltb code 0x40) (plain (Function (bit 16 code) (code % 16)) (λ s h. functionSet-sound (bit 16 code) (code % 16) s (mod-lt code (omega arith)) h))
+    (by (ltb code 0x40) (plain (Function (isSet 16 code) (code % 16)) (λ s h. functionSet-sound (isSet 16 code) (code % 16) s (mod-lt code (omega arith)) h))
     (by (ltb code 0x80)
     (plain (Set (Pattern (pattern (code % 32)))) (λ s h. addressSet-sound (Pattern (pattern (code % 32))) s (lt-ltb _ patternSize (mod-lt code (omega arith))) h))
     (plain (Set (Display (display (code % 16)))) (λ s h. addressSet-sound (Display (display (code % 16))) s (lt-ltb _ displaySize (mod-lt code (omega arith))) h))))))))))

@@ -8,8 +8,8 @@ use native.Mathlib.Nat.{mod-lt, mod-mod}
 use lib.ListN.{length, getD, set}
 use lib.Seq.{getD-set-same, getD-set-other}
 use Rattle.laws.specs.Pick.{pick}
-use Rattle.chip.specs.Address.{displaySize, patternSize, readDisplay, writtenDisplay, readPattern, writtenPattern, numberOf}
-use Rattle.chip.specs.Step.{homed, cleared, entered, lit, stepped, shifted, functionSet, addressSet, storedAt, followed, writtenAt, written, passed}
+use Rattle.chip.specs.Address.{displaySize, patternSize, readDisplay, writtenDisplay, readPattern, writtenPattern, addressNumber}
+use Rattle.chip.specs.Step.{homed, cleared, entered, screenSet, stepped, shifted, functionSet, addressSet, storedAt, followed, writtenAt, written, passed}
 use Rattle.chip.specs.declared.address.DisplayAddress.{DisplayAddress}
 use Rattle.chip.specs.declared.address.PatternAddress.{PatternAddress}
 use Rattle.chip.specs.declared.address.Address.{Address}
@@ -57,7 +57,7 @@ pub entry-keeps : (up follow : Bool) (s : Sheet) → let t = entered up follow s
 entry-keeps up follow s = (refl, refl, (refl, refl, refl), (refl, refl), refl, refl)
 
 -- the display bits: all but D, C and B
-pub screen-keeps : (on cursor blink : Bool) (s : Sheet) → let t = lit on cursor blink s in
+pub screen-keeps : (on cursor blink : Bool) (s : Sheet) → let t = screenSet on cursor blink s in
     SameAddress s t × SameShift s t × SameEntry s t × SameFunction s t × SameDisplay s t × SamePattern s t
 screen-keeps on cursor blink s = (refl, refl, (refl, refl), (refl, refl), refl, refl)
 
@@ -122,6 +122,6 @@ pub pattern-others : (p q : PatternAddress) (byte : ℕ) (m : List ℕ) → (q .
 pattern-others p q byte m n = ap (λ x. x % 32) (getD-set-other m (p .0 % patternSize) (q .0 % patternSize) (byte % 32) 0 n)
 
 -- an address has seven bits at most
-pub number-small : (a : Address) → numberOf a < 128
+pub number-small : (a : Address) → addressNumber a < 128
 number-small (Display d) = omega (arith, mod-lt (d .0) {m = displaySize} (omega arith))
 number-small (Pattern p) = omega (arith, mod-lt (p .0) {m = patternSize} (omega arith))

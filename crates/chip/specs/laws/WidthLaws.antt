@@ -7,7 +7,7 @@ use lib.Dec.{ltb}
 use borrow.Author.Tests.{ltb-false, le-ltb}
 use Rattle.laws.specs.Pick.{pick}
 use Rattle.chip.specs.Address.{display, pattern}
-use Rattle.chip.specs.Instruction.{bit, unset, decoded}
+use Rattle.chip.specs.Instruction.{isSet, unset, decoded}
 use Rattle.chip.specs.Step.{acted, obeyed, writtenAt, written}
 use Rattle.chip.specs.laws.StepLaws.{pattern-write-keeps, display-write-keeps}
 use Rattle.chip.specs.declared.address.Address.{Address}
@@ -30,19 +30,19 @@ low-keeps code e =
     (either (ltb code 0x01) (keeps Nothing (λ s. refl))
     (either (ltb code 0x02) (keeps Clear (λ s. refl))
     (either (ltb code 0x04) (keeps Home (λ s. refl))
-    (either (ltb code 0x08) (keeps (Entry (bit 2 code) (bit 1 code)) (λ s. refl))
-    (either (ltb code 0x10) (keeps (Screen (bit 4 code) (bit 2 code) (bit 1 code)) (λ s. refl))
-    (either (ltb code 0x18) (keeps (Move (bit 4 code)) (λ s. refl))
+    (either (ltb code 0x08) (keeps (Entry (isSet 2 code) (isSet 1 code)) (λ s. refl))
+    (either (ltb code 0x10) (keeps (Screen (isSet 4 code) (isSet 2 code) (isSet 1 code)) (λ s. refl))
+    (either (ltb code 0x18) (keeps (Move (isSet 4 code)) (λ s. refl))
     (keeps (Shift (unset 4 code)) (λ s. refl))))))))
 
 high-code : (code : ℕ) → 0x20 ≤ code →
     decoded code ≡
-    pick (ltb code 0x40) (Function (bit 16 code) (code % 16)) (pick (ltb code 0x80) (Set (Pattern (pattern (code % 32)))) (Set (Display (display (code % 16)))))
+    pick (ltb code 0x40) (Function (isSet 16 code) (code % 16)) (pick (ltb code 0x80) (Set (Pattern (pattern (code % 32)))) (Set (Display (display (code % 16)))))
 high-code code h =
     rw (le-ltb code 0x01 (omega arith), le-ltb code 0x02 (omega arith), le-ltb code 0x04 (omega arith), le-ltb code 0x08 (omega arith), le-ltb code 0x10 (omega arith), le-ltb code 0x18 (omega arith), le-ltb code 0x20 h)
 
 pub obeyed-width : (code : ℕ) (s : Sheet) →
-    obeyed code s .registers .eight ≡ pick (ltb code 0x20) (s .registers .eight) (pick (ltb code 0x40) (bit 16 code) (s .registers .eight))
+    obeyed code s .registers .eight ≡ pick (ltb code 0x20) (s .registers .eight) (pick (ltb code 0x40) (isSet 16 code) (s .registers .eight))
 obeyed-width code s = by (ltb code 0x20) refl where
   eight : Bool
   eight = s .registers .eight
@@ -50,12 +50,12 @@ obeyed-width code s = by (ltb code 0x20) refl where
   kept : {i : Instruction} → Keeps i → acted i s .registers .eight ≡ eight
   kept (keeps i k) = k s
 
-  high : (a b : Bool) → acted (pick a (Function (bit 16 code) (code % 16)) (pick b (Set (Pattern (pattern (code % 32)))) (Set (Display (display (code % 16)))))) s .registers .eight ≡ pick a (bit 16 code) eight
+  high : (a b : Bool) → acted (pick a (Function (isSet 16 code) (code % 16)) (pick b (Set (Pattern (pattern (code % 32)))) (Set (Display (display (code % 16)))))) s .registers .eight ≡ pick a (isSet 16 code) eight
   high true b = refl
   high false true = refl
   high false false = refl
 
-  by : (b : Bool) → ltb code 0x20 ≡ b → obeyed code s .registers .eight ≡ pick b eight (pick (ltb code 0x40) (bit 16 code) eight)
+  by : (b : Bool) → ltb code 0x20 ≡ b → obeyed code s .registers .eight ≡ pick b eight (pick (ltb code 0x40) (isSet 16 code) eight)
   by true e = kept (low-keeps code e)
   by false e = ap (λ i. acted i s .registers .eight) (high-code code (ltb-false code 0x20 e)) ∙ high (ltb code 0x40) (ltb code 0x80)
 

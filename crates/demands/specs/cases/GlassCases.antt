@@ -7,7 +7,7 @@ use mathlib.Core.List.{List, [], _∷_, _++_}
 use lib.ListN.{replicate}
 use Rattle.dots.specs.Bit.{pack}
 use Rattle.dots.specs.First.{first, firstDot}
-use Rattle.dots.specs.Landing.{frameOf, countOf}
+use Rattle.dots.specs.Landing.{dotsFrame, countOf}
 use Rattle.dots.specs.Table.{table, sum}
 use Rattle.chip.specs.declared.address.Address.{Address}
 use Rattle.picture.specs.Compare.{comparedOf}
@@ -24,7 +24,7 @@ use Rattle.demands.specs.cases.RowCases.{Hold, recording, shows, draws, 
 
 -- what computes when a frame is painted or compared
 unfoldable pub picturing : ℕ
-unfolding recording frameOf countOf lit sum table pack first firstDot
+unfolding recording dotsFrame countOf lit sum table pack first firstDot
 picturing = 0
 
 -- n bytes of a font from place i on: byte i is 31 i mod 241, so that no two glyphs are alike, none is like itself turned or mirrored, and upper bits are set

@@ -7,7 +7,7 @@ use mathlib.Core.List.{List, [], _∷_, _++_}
 use lib.ListN.{getD}
 use Rattle.laws.specs.Pick.{pick}
 use Rattle.log.specs.Frames.{joined}
-use Rattle.chip.specs.Address.{numberOf as addressNumber}
+use Rattle.chip.specs.Address.{addressNumber}
 use Rattle.chip.specs.declared.sheet.Sheet.{Sheet}
 use Rattle.mirror.specs.Panel.{soundPanel}
 use Rattle.mirror.specs.declared.answer.Answer.{Answer}
@@ -17,7 +17,7 @@ use Rattle.mirror.specs.declared.half.Half.the-variants.{Empty, Ignored, Waitin
 use Rattle.mirror.specs.declared.panel.Panel.{Panel}
 use Rattle.striking.specs.Machine.{stays, goes, leaves, Sort, sorted, Answered, events}
 use Rattle.striking.specs.Striking.{settled, remains, unstruck}
-use Rattle.demands.specs.Mirrors.{Reply, ours, sortOf}
+use Rattle.demands.specs.Mirrors.{Reply, ours, sortFor}
 use Rattle.demands.specs.Answers.{answersBy, panelBy, numbers}
 use Rattle.demands.specs.Replay.{carriedAll, takenOf}
 use Rattle.demands.specs.Striking.{struckLog, StruckFrom}
@@ -53,11 +53,11 @@ not-alone h =
 -- FALSE: the first half is the record before. A bad or a back record may stand between the halves
 abbrev keptByNext : List (Answered (List ℕ) Reply) → Bool
 keptByNext [] = true
-keptByNext (a ∷ rest) = settled (sortOf (a .answer .answer) .others) true
+keptByNext (a ∷ rest) = settled (sortFor (a .answer .answer) .others) true
 
 abbrev before : List (Answered (List ℕ) Reply) → List (Answered (List ℕ) Reply)
 before [] = []
-before (a ∷ rest) = pick (remains (sortOf (a .answer .answer) .own) (keptByNext rest)) (a ∷ before rest) (before rest)
+before (a ∷ rest) = pick (remains (sortFor (a .answer .answer) .own) (keptByNext rest)) (a ∷ before rest) (before rest)
 
 pub not-before : ¬ AsBefore before
 unfolding answering

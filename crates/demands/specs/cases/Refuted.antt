@@ -8,7 +8,7 @@ use lib.ListN.{getD, replicate}
 use lib.Dec.{eqb}
 use Rattle.laws.specs.Pick.{pick}
 use Rattle.log.specs.Frames.{recordsOf}
-use Rattle.chip.specs.Address.{numberOf as addressNumber}
+use Rattle.chip.specs.Address.{addressNumber}
 use Rattle.chip.specs.Sheet.{freshSheet}
 use Rattle.chip.specs.declared.sheet.Sheet.{Sheet}
 use Rattle.mirror.specs.Answer.{numberOf}
@@ -21,7 +21,7 @@ use Rattle.striking.specs.Machine as machine
 use Rattle.demands.specs.Mirrors.{Reply, Mirror, ours}
 use Rattle.demands.specs.Answers.{answersBy, panelBy}
 use Rattle.demands.specs.Replay.{carriedAll, takenOf, Replays}
-use Rattle.demands.specs.Rules.{IgnoresBusy, Steps, Counter, Counts, AddsUp}
+use Rattle.demands.specs.Rules.{IgnoresBusy, DoesSteps, Counter, Counts, AddsUp}
 use Rattle.demands.specs.laws.RulesLaws.{ignores-busy}
 use Rattle.demands.specs.cases.Logs.{answering, instructAt, writeAt, casePanel, typed, proper}
 
@@ -50,7 +50,7 @@ pub not-always-bad : ¬ IgnoresBusy (always say.Bad)
 not-always-bad = not-the-same (always say.Bad) say.Bad (λ p bytes. refl)
 
 -- ONE THAT NEVER CHANGES THE PANEL, whatever it answers. The steps: 57h as data at 0 is stored
-pub not-still : (m : Mirror) → ((p : Panel) (bytes : List ℕ) → m p bytes .state ≡ p) → ¬ Steps m
+pub not-still : (m : Mirror) → ((p : Panel) (bytes : List ℕ) → m p bytes .state ≡ p) → ¬ DoesSteps m
 unfolding answering
 not-still m same h =
     let e : _≡_ {A = ℕ} 0x20 0x57 =

@@ -11,7 +11,7 @@ use Rattle.mirror.specs.Panel.{soundPanel}
 use Rattle.mirror.specs.Stream.{runOf}
 use Rattle.mirror.specs.declared.panel.Panel.{Panel}
 use Rattle.picture.specs.Frame.{glass}
-use Rattle.picture.specs.Paint.{paper, paintedOf}
+use Rattle.picture.specs.Paint.{paintPaper, paintedOf}
 use Rattle.picture.specs.Pattern.{fontSize}
 use Rattle.picture.specs.Picture.{lit}
 use Rattle.picture.specs.declared.paint.Painted.{Painted}

@@ -24,14 +24,14 @@ use Rattle.mirror.specs.declared.record.Recorded.{Recorded}
 use Rattle.striking.specs.Machine.{goes, strikes, leaves, sorted, Machine}
 use Rattle.striking.specs.Duties.{Turn, KeeperStays, Laws}
 use Rattle.striking.specs.laws.Instances.{through-laws}
-use Rattle.demands.specs.Mirrors.{Reply, outOf, sortOf, settledPanel, machineOf}
+use Rattle.demands.specs.Mirrors.{Reply, outOf, sortFor, settledPanel, machineOf}
 use Rattle.demands.specs.laws.EngineLaws.{engine}
 use Rattle.demands.specs.Replay.{carried}
 use Rattle.demands.specs.laws.Ways.{Drops, status, ignored, torn, nothing, Stands, back, bad, cut, Narrow, Fits, Goes, acts, drops, misses, begins, Came, stands, restarts, transfers, came}
 
 -- our mirror on records that are parsed already
 abbrev parsed : Machine Panel Frame Reply
-parsed = record { step = λ p f. outOf (answered f p); sort = λ f r. sortOf (r .answer); bare = settledPanel; Idle = λ p. p .half ≡ Empty }
+parsed = record { step = λ p f. outOf (answered f p); sort = λ f r. sortFor (r .answer); bare = settledPanel; Idle = λ p. p .half ≡ Empty }
 
 -- the half that may yet be struck: an ignored one is struck already
 abbrev live : Half → Half
@@ -93,13 +93,13 @@ taken-turn : (p k s : Panel) (f : Frame) (time : ℕ) (sheet : Sheet) (span byte
 taken-turn p k s f time sheet span byte used e =
     record { follows = rw e (refl, refl, beside (done time sheet span p) time time (le-refl time) (le-refl time) (λ z. refl)) }
 
-drops-sort : {a : Answer} → Drops a → sortOf a ≡ sorted goes strikes
+drops-sort : {a : Answer} → Drops a → sortFor a ≡ sorted goes strikes
 drops-sort status = refl
 drops-sort ignored = refl
 drops-sort torn = refl
 drops-sort nothing = refl
 
-stands-sort : {a : Answer} → Stands a → sortOf a ≡ sorted goes leaves
+stands-sort : {a : Answer} → Stands a → sortFor a ≡ sorted goes leaves
 stands-sort back = refl
 stands-sort bad = refl
 stands-sort cut = refl
@@ -141,7 +141,7 @@ begins-beside w e =
 ends : (w k s : Panel) → Beside w k s → settledPanel k ≡ settledPanel w
 ends w k s (beside p l l₁ x y n) = refl
 
-keeper-stays : (a : Answer) → KeeperStays (sortOf a .own) (sortOf a .others)
+keeper-stays : (a : Answer) → KeeperStays (sortFor a .own) (sortFor a .others)
 keeper-stays say.Taken = refl
 keeper-stays say.Held = tt
 keeper-stays say.Status = tt

@@ -24,7 +24,7 @@ use Rattle.mirror.specs.declared.record.Recorded.{Recorded}
 use Rattle.mirror.specs.laws.TableLaws.{answered-sound}
 use Rattle.demands.specs.Mirrors.{ours}
 use Rattle.demands.specs.Replay.{Entry, carriedAll, entryOf}
-use Rattle.demands.specs.Rules.{matching, busyAt, entriesAt, IgnoresBusy, Steps}
+use Rattle.demands.specs.Rules.{matching, begunBusy, entriesAt, IgnoresBusy, DoesSteps}
 use Rattle.demands.specs.laws.Ways.{Narrow}
 
 -- no half waits at width 8 in a sound panel
@@ -90,8 +90,8 @@ module _ (time : ℕ) (r w : Bool) (bus byte : ℕ) (p : Panel) where
   untorn false b v e = absurd (false≢true e)
 
   way-ignores : (eight : Bool) (h : Half) (z rs reads : Bool) (b : ℕ) → Narrow eight h → (rs || not reads) ≡ true → matching h rs reads ≡ true →
-      ignores (wayOf eight h z rs reads b) ≡ busyAt h z
-  way-ignores true h z rs reads b n u m = whole-ignores z rs reads b u ∙ sym (ap (λ x. busyAt x z) (n refl))
+      ignores (wayOf eight h z rs reads b) ≡ begunBusy h z
+  way-ignores true h z rs reads b n u m = whole-ignores z rs reads b u ∙ sym (ap (λ x. begunBusy x z) (n refl))
   way-ignores false Empty z rs reads b n u m = first-ignores z rs reads u
   way-ignores false (Ignored r₁ w₁) z rs reads b n u m = untorn (Bool·beq r₁ rs) (Bool·beq w₁ reads) Way.Ignored m
   way-ignores false (Waiting r₁ w₁ nibble) z rs reads b n u m =
@@ -164,7 +164,7 @@ way-sheet false (Waiting a b nibble) z rs reads time bus p n =
     torn-sheet time rs reads bus byte p (Bool·beq a rs) (Bool·beq b reads) (secondOf rs reads byte) (entryOf rs reads byte) (second-sheet time rs reads bus byte p rs reads)
 
 -- DEMAND 2, THE STEPS
-pub steps : Steps ours
+pub steps : DoesSteps ours
 unfolding transferred
 steps p bytes time rs reads bus s f l =
     ap (λ (x : Recorded). x .panel .sheet) (sym (answered-sound p bytes s) ∙ in-time p bytes time rs reads bus f l)

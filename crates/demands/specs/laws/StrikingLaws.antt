@@ -24,11 +24,11 @@ use Rattle.striking.specs.Machine.{Sort, Answered, events, run, final}
 use Rattle.striking.specs.Striking.{remains, unstruck, struck, Struck}
 use Rattle.striking.specs.Striking.{keptBy as kept}
 use Rattle.striking.specs.laws.StrikingLaws.{striking}
-use Rattle.demands.specs.Mirrors.{Reply, Mirror, ours, sortOf, settledPanel, machineOf}
+use Rattle.demands.specs.Mirrors.{Reply, Mirror, ours, sortFor, settledPanel, machineOf}
 use Rattle.demands.specs.Answers.{answersBy, panelBy}
 use Rattle.demands.specs.laws.EngineLaws.{engine, same-run, same-final, same-answers, same-panel}
 use Rattle.demands.specs.laws.AnswersLaws.{of-engine, of-run}
-use Rattle.demands.specs.Striking.{keptBy, struckLog, StruckFrom, Strikes, SameRun, takens, TakenOrHeld}
+use Rattle.demands.specs.Striking.{stayed, struckLog, StruckFrom, Strikes, SameRun, takens, TakenOrHeld}
 use Rattle.demands.specs.laws.MirrorLaws.{mirror-laws}
 
 -- What goes and what stays, of any mirror
@@ -37,7 +37,7 @@ told bytes answer byte = record { event = bytes; answer = record { answer = answ
 
 module _ (bytes : List ℕ) (byte : ℕ) (left all : List (Answered (List ℕ) Reply)) where
   taken-one : (a : Answer) (later : Bool) → takens left ≡ takens all →
-      takens (pick (remains (sortOf a .own) later) (told bytes a byte ∷ left) left) ≡ takens (told bytes a byte ∷ all)
+      takens (pick (remains (sortFor a .own) later) (told bytes a byte ∷ left) left) ≡ takens (told bytes a byte ∷ all)
   taken-one say.Taken later h = ap (λ l. told bytes say.Taken byte ∷ l) h
   taken-one say.Held true h = h
   taken-one say.Held false h = h
@@ -50,7 +50,7 @@ module _ (bytes : List ℕ) (byte : ℕ) (left all : List (Answered (List ℕ) R
   taken-one say.Cut later h = h
   taken-one say.Unsound later h = h
 
-  held-one : (a : Answer) (later : Bool) → TakenOrHeld left → TakenOrHeld (pick (remains (sortOf a .own) later) (told bytes a byte ∷ left) left)
+  held-one : (a : Answer) (later : Bool) → TakenOrHeld left → TakenOrHeld (pick (remains (sortFor a .own) later) (told bytes a byte ∷ left) left)
   held-one say.Taken later h = (omega arith, h)
   held-one say.Held true h = (omega arith, h)
   held-one say.Held false h = h
@@ -120,7 +120,7 @@ as-table p log c h =
     let d : AllData (frames s) = data-some (h .in-order) (frames-data log (c .bytes)) in
     let a = same-answers p log c in
     let b : answersBy engine p s ≡ answersBy ours p s = same-run (frames s) p l d in
-    let k : keptBy engine p log ≡ keptBy ours p log = ap (unstruck (machineOf ours .sort)) a in
+    let k : stayed engine p log ≡ stayed ours p log = ap (unstruck (machineOf ours .sort)) a in
     let t : s ≡ struckLog ours p log = ap (λ x. joined (events x)) k in
     record {
       taken = ap takens (sym k) ∙ h .taken ∙ ap takens a;

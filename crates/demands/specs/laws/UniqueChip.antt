@@ -80,7 +80,7 @@ module _ {M : Type 1} (𝓤 : URA M) (H : Heap 𝓤) (A : Atoms 𝓤) (mem : Mem
   pub pattern-address-write : Determines 𝓤 pattern-address·write.ended (pattern-address·write.clauses 𝓤 H A mem run) (λ κs e. now (e .1 .1 .0))
   pattern-address-write = record { Says = _; stated = λ κs a g r e. refl; one = λ κs a r s e f p q. (refl, p ∙ sym q) }
 
-  -- chip::address::Address::number: r ≡ numberOf self
+  -- chip::address::Address::number: r ≡ addressNumber self
   pub address-number : DeterminesAnswer 𝓤 address·number.ended (address·number.clauses 𝓤 H A mem run)
   address-number = equation 𝓤 _ _ _ (λ κs a g r e. refl)
 
@@ -108,7 +108,7 @@ module _ {M : Type 1} (𝓤 : URA M) (H : Heap 𝓤) (A : Atoms 𝓤) (mem : Mem
   pub registers-entry-mode : DeterminesAnswer 𝓤 registers·entry-mode.ended (registers·entry-mode.clauses 𝓤 H A mem run)
   registers-entry-mode = answer 𝓤 _ _ _ (λ κs a g r e. refl) (λ κs a r s e f p q. registers-of (p [] [] ∙ sym (q [] [])))
 
-  -- chip::registers::Registers::screen: Steps (lit on cursor blink) self r
+  -- chip::registers::Registers::screen: Steps (screenSet on cursor blink) self r
   pub registers-screen : DeterminesAnswer 𝓤 registers·screen.ended (registers·screen.clauses 𝓤 H A mem run)
   registers-screen = answer 𝓤 _ _ _ (λ κs a g r e. refl) (λ κs a r s e f p q. registers-of (p [] [] ∙ sym (q [] [])))
 

@@ -21,6 +21,6 @@ module _ {M : Type 1} (𝓤 : URA M) (H : Heap 𝓤) (A : Atoms 𝓤) (mem : Mem
   pub input-start : DeterminesAnswer 𝓤 input·start.ended (input·start.clauses 𝓤 H A mem run)
   input-start = equation 𝓤 _ _ _ (λ κs a g r e. refl)
 
-  -- desk::number::number_of: r ≡ numberOf (now (word .entry)) most
+  -- desk::number::number_of: r ≡ decimalOf (now (word .entry)) most
   pub number-of : DeterminesAnswer 𝓤 number·of.ended (number·of.clauses 𝓤 H A mem run)
   number-of = equation 𝓤 _ _ _ (λ κs a g r e. refl)

@@ -30,7 +30,7 @@ module _ {M : Type 1} (𝓤 : URA M) (H : Heap 𝓤) (A : Atoms 𝓤) (mem : Mem
   pub compare : DeterminesAnswer 𝓤 compare·compare.ended (compare·compare.clauses 𝓤 H A mem run)
   compare = answer 𝓤 _ _ _ (λ κs a g r e. refl) (λ κs a r s e f p q. p .told ∙ sym (q .told))
 
-  -- picture::compare::Compared::refusal: r ≡ refusalOf self
+  -- picture::compare::Compared::refusal: r ≡ compareRefusal self
   pub compared-refusal : DeterminesAnswer 𝓤 compare·refusal.ended (compare·refusal.clauses 𝓤 H A mem run)
   compared-refusal = equation 𝓤 _ _ _ (λ κs a g r e. refl)
 
@@ -50,7 +50,7 @@ module _ {M : Type 1} (𝓤 : URA M) (H : Heap 𝓤) (A : Atoms 𝓤) (mem : Mem
   pub paint : Determines 𝓤 paint·paint.ended (paint·paint.clauses 𝓤 H A mem run) {L = List ℕ} (λ κs e. now (e .1 .1 .1 .0))
   paint = record { Says = _; stated = λ κs a g r e. refl; one = λ κs a r s e f p q. (p .told ∙ sym (q .told), p .left ∙ sym (q .left)) }
 
-  -- picture::paint::Painted::refusal: r ≡ refusalOf self
+  -- picture::paint::Painted::refusal: r ≡ paintRefusal self
   pub painted-refusal : DeterminesAnswer 𝓤 paint·refusal.ended (paint·refusal.clauses 𝓤 H A mem run)
   painted-refusal = equation 𝓤 _ _ _ (λ κs a g r e. refl)
 

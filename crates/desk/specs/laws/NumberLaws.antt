@@ -10,7 +10,7 @@ use lib.ListN.{length, drop, getD, drop-of-length-le}
 use lib.Seq.{drop-cons}
 use borrow.Author.Tests.{lt-ltb, ltb-true, ltb-false, le-ltb}
 use Rattle.laws.specs.Pick.{pick}
-use Rattle.desk.specs.Number.{none, some, isDigit, allDigits, valueAfter, numberAfter, numberOf}
+use Rattle.desk.specs.Number.{none, some, isDigit, allDigits, valueAfter, numberAfter, decimalOf}
 use Rattle.desk.specs.declared.number.Number.{Number}
 
 -- one more digit
@@ -63,8 +63,8 @@ tested d n most = by d (ltb most n) refl
     by true false q = ltb-false most n q
     by false p q = omega arith
 
-pub bounded : (s : List ℕ) (most : ℕ) → numberOf s most .value ≤ most
-unfolding numberOf
+pub bounded : (s : List ℕ) (most : ℕ) → decimalOf s most .value ≤ most
+unfolding decimalOf
 bounded [] most = omega arith
 bounded (b ∷ s) most = tested (allDigits (b ∷ s)) (valueAfter 0 (b ∷ s)) most
 
@@ -72,20 +72,20 @@ bounded (b ∷ s) most = tested (allDigits (b ∷ s)) (valueAfter 0 (b ∷ s)) m
 pub record Reached (word : List ℕ) (most v i : ℕ) : Type 0 where
   pub within : i ≤ length word
   pub small : v ≤ most
-  pub is : numberAfter v (drop i word) most ≡ numberOf word most
+  pub is : numberAfter v (drop i word) most ≡ decimalOf word most
 
-pub wordless : (word : List ℕ) (most : ℕ) → length word ≡ 0 → none ≡ numberOf word most
-unfolding numberOf
+pub wordless : (word : List ℕ) (most : ℕ) → length word ≡ 0 → none ≡ decimalOf word most
+unfolding decimalOf
 wordless [] most e = refl
 wordless (b ∷ s) most e = absurd (omega arith)
 
 pub begun : (word : List ℕ) (most : ℕ) → (length word ≡ 0 → ⊥) → Reached word most 0 0
-unfolding numberOf
+unfolding decimalOf
 begun [] most h = absurd (h refl)
 begun (b ∷ s) most h = record { within = omega arith; small = omega arith; is = refl }
 
 module _ (word : List ℕ) (most v i : ℕ) (at : Reached word most v i) where
-  split : i < length word → numberAfter v (getD word i 0 ∷ drop (suc i) word) most ≡ numberOf word most
+  split : i < length word → numberAfter v (getD word i 0 ∷ drop (suc i) word) most ≡ decimalOf word most
   split h = ap (λ s. numberAfter v s most) (sym (drop-cons word i 0 h)) ∙ at .is
 
   pub onward : i < length word → (r : Number) → r ≡ thenOf v (getD word i 0) most → r .ok ≡ true → Reached word most (r .value) (i + 1)
@@ -99,10 +99,10 @@ module _ (word : List ℕ) (most v i : ℕ) (at : Reached word most v i) where
         is = sym (taken v b s most (ap (λ (x : Number). x .ok) (sym e) ∙ o)) ∙ split h;
       })
 
-  pub stopped : i < length word → (r : Number) → r ≡ thenOf v (getD word i 0) most → r .ok ≡ false → none ≡ numberOf word most
+  pub stopped : i < length word → (r : Number) → r ≡ thenOf v (getD word i 0) most → r .ok ≡ false → none ≡ decimalOf word most
   stopped h r e o = sym (refused v (getD word i 0) (drop (suc i) word) most (ap (λ (x : Number). x .ok) (sym e) ∙ o)) ∙ split h
 
-  pub ended : length word ≤ i → some v ≡ numberOf word most
+  pub ended : length word ≤ i → some v ≡ decimalOf word most
   unfolding allDigits valueAfter
   ended h =
       sym (ap (λ t. pick t none (some v)) (le-ltb most v (at .small))) ∙

@@ -12,7 +12,7 @@ use Rattle.dots.specs.Bit.{bit, one}
 use Rattle.dots.specs.laws.BitLaws.{one-lt, bit-of-zero}
 use Rattle.dots.specs.Table.{inOrder, sum}
 use Rattle.dots.specs.laws.TableLaws.{in-order-keeps, sum-cong, sum-blocks, sum-swap}
-use Rattle.dots.specs.Landing.{Landing, dot, frameOf, countOf, put}
+use Rattle.dots.specs.Landing.{Landing, dot, dotsFrame, countOf, put}
 use Rattle.dots.specs.laws.LandingLaws.{Bytes, is-frame, length-put, put-same, put-other, put-spare, put-bytes}
 use Rattle.dots.specs.engine.Cells.{strip, block, line, page, lineSum, pageSum}
 
@@ -167,7 +167,7 @@ module _ (L : Landing) (g : ℕ → ℕ → Bool) where
     }
 
     -- all cells painted on a blank frame are the frame of g
-    pub page-frame : page L tall wide across lines v (replicate (L .size) 0) ≡ frameOf L g
+    pub page-frame : page L tall wide across lines v (replicate (L .size) 0) ≡ dotsFrame L g
     page-frame =
         let f : List ℕ = replicate (L .size) 0 in
         let W : OnTheWay (page L tall wide across lines v f) = page-keeps .way f blank-way in

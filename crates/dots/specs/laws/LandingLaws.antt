@@ -13,7 +13,7 @@ use lib.Seq.{getD-set-same, getD-set-other, ext-getD}
 use Rattle.dots.specs.Bit.{bit, one, pack}
 use Rattle.dots.specs.laws.BitLaws.{one-lt, bit-pack, is-pack, same-bits, or-same, or-other}
 use Rattle.dots.specs.laws.TableLaws.{length-table, getD-table}
-use Rattle.dots.specs.Landing.{Landing, dot, frameOf, put}
+use Rattle.dots.specs.Landing.{Landing, dot, dotsFrame, put}
 
 -- every element is a byte
 abbrev pub Bytes : List ℕ → Type 0
@@ -24,14 +24,14 @@ module _ (L : Landing) where
   shade : (ℕ → ℕ → Bool) → ℕ → ℕ → ℕ
   shade g b i = one (L .used b i && g (L .rowAt b i) (L .colAt b i))
 
-  shade-bit : (g : ℕ → ℕ → Bool) (b i : ℕ) → b < L .size → i < 8 → bit (getD (frameOf L g) b 0) i ≡ shade g b i
-  unfolding frameOf shade
+  shade-bit : (g : ℕ → ℕ → Bool) (b i : ℕ) → b < L .size → i < 8 → bit (getD (dotsFrame L g) b 0) i ≡ shade g b i
+  unfolding dotsFrame shade
   shade-bit g b i p q =
       ap (λ (n : ℕ). bit n i) (getD-table (λ b. pack (shade g b) 8) (L .size) b 0 p)
       ∙ bit-pack (shade g b) 8 i (λ k. one-lt (L .used b k && g (L .rowAt b k) (L .colAt b k))) q
 
   -- the frame of g shows g at every dot
-  pub dot-frame : (g : ℕ → ℕ → Bool) (r x : ℕ) → r < L .rows → x < L .cols → dot L (frameOf L g) r x ≡ one (g r x)
+  pub dot-frame : (g : ℕ → ℕ → Bool) (r x : ℕ) → r < L .rows → x < L .cols → dot L (dotsFrame L g) r x ≡ one (g r x)
   unfolding shade
   dot-frame g r x p q =
       shade-bit g (L .byteAt r x) (L .bitAt r x) (L .in-size r x p q) (L .in-byte r x p q)
@@ -39,23 +39,23 @@ module _ (L : Landing) where
       ∙ ap₂ (λ (a b : ℕ). one (g a b)) (L .row-back r x p q) (L .col-back r x p q)
 
   -- and 0 in every bit that is no dot's
-  pub spare-frame : (g : ℕ → ℕ → Bool) (b i : ℕ) → b < L .size → i < 8 → L .used b i ≡ false → bit (getD (frameOf L g) b 0) i ≡ 0
+  pub spare-frame : (g : ℕ → ℕ → Bool) (b i : ℕ) → b < L .size → i < 8 → L .used b i ≡ false → bit (getD (dotsFrame L g) b 0) i ≡ 0
   unfolding shade
   spare-frame g b i p q u =
       shade-bit g b i p q ∙ ap (λ (u : Bool). one (u && g (L .rowAt b i) (L .colAt b i))) u
 
-  pub length-frame : (g : ℕ → ℕ → Bool) → length (frameOf L g) ≡ L .size
-  unfolding frameOf
+  pub length-frame : (g : ℕ → ℕ → Bool) → length (dotsFrame L g) ≡ L .size
+  unfolding dotsFrame
   length-frame g = length-table _ (L .size)
 
   -- nothing else does
   pub is-frame : (g : ℕ → ℕ → Bool) (f : List ℕ) → length f ≡ L .size → Bytes f
       → ((r x : ℕ) → r < L .rows → x < L .cols → dot L f r x ≡ one (g r x))
       → ((b i : ℕ) → b < L .size → i < 8 → L .used b i ≡ false → bit (getD f b 0) i ≡ 0)
-      → f ≡ frameOf L g
-  unfolding frameOf shade
+      → f ≡ dotsFrame L g
+  unfolding dotsFrame shade
   is-frame g f n bs dots spare =
-      ext-getD 0 f (frameOf L g) (n ∙ sym (length-frame g))
+      ext-getD 0 f (dotsFrame L g) (n ∙ sym (length-frame g))
       (λ b p. is-pack (shade g b) 8 (getD f b 0) (bs b) (λ i q. at b i (omega arith) q (L .used b i) refl)
       ∙ sym (getD-table (λ b. pack (shade g b) 8) (L .size) b 0 (omega arith)))
     where

@@ -8,7 +8,7 @@ use Rattle.chip.specs.Sound.{patternFits}
 use Rattle.mirror.specs.Panel.{freshPanel}
 use Rattle.mirror.specs.engine.Record.{transferred}
 use Rattle.mirror.specs.Table.{recordOf}
-use Rattle.mirror.specs.Busy.{Entry, entriesFrom, Open, begunBy, widthAfter, openAfter}
+use Rattle.mirror.specs.Busy.{Noted, notedFrom, Open, begunBy, widthAfter, openAfter}
 use Rattle.mirror.specs.Busy.Open.{none}
 
 -- a transfer at a time below 256
@@ -16,11 +16,11 @@ abbrev sent : ℕ → ℕ → ℕ → List ℕ
 sent time control byte = 12 ∷ 0 ∷ 1 ∷ 0 ∷ time ∷ 0 ∷ 0 ∷ 0 ∷ 0 ∷ 0 ∷ 0 ∷ 0 ∷ control ∷ byte ∷ []
 
 -- the number of each entry, and the time at which it began
-abbrev numbers : List Entry → List ℕ
+abbrev numbers : List Noted → List ℕ
 numbers [] = []
 numbers (e ∷ es) = e .number ∷ numbers es
 
-abbrev begun : Bool → Open → List Entry → List ℕ
+abbrev begun : Bool → Open → List Noted → List ℕ
 begun eight o [] = []
 begun eight o (e ∷ es) = timeOf (begunBy o e .bytes) ∷ begun (widthAfter eight o e) (openAfter eight o e) es
 
@@ -28,8 +28,8 @@ begun eight o (e ∷ es) = timeOf (begunBy o e .bytes) ∷ begun (widthAfter eig
 abbrev log : List (List ℕ)
 log = sent 0 0 0x20 ∷ sent 39 0 0x80 ∷ sent 7 0 0x50 ∷ sent 41 0 0x50 ∷ sent 42 0 0x80 ∷ sent 43 0 0x50 ∷ []
 
-abbrev entries : List Entry
-entries = entriesFrom (freshPanel 10000 1640 40) log
+abbrev entries : List Noted
+entries = notedFrom (freshPanel 10000 1640 40) log
 
 -- both halves of the pair begun at 39 are ignored, though the chip is free by 41, and the next pair is not skewed
 answers : numbers entries ≡ 0 ∷ 3 ∷ 5 ∷ 3 ∷ 1 ∷ 0 ∷ []

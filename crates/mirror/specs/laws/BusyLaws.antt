@@ -23,7 +23,7 @@ use Rattle.mirror.specs.Case.Case.{unsound, cut, bad, back, reset, torn,
 use Rattle.mirror.specs.laws.RecordKeeps.{not-both}
 use Rattle.mirror.specs.laws.SoundLaws.{Lasts, record-lasts}
 use Rattle.mirror.specs.laws.TypedLaws.{AllData, frames-data, typed-lasts}
-use Rattle.mirror.specs.Busy.{Entry, entryOf, entriesFrom, Open, begunBy, byteBy, widthBy, widthAfter, opens, openAfter, wasBusy, Decided, matches, isUsable, AllDecided, IgnoredExactlyWhenBusy}
+use Rattle.mirror.specs.Busy.{Noted, notedAs, notedFrom, Open, begunBy, byteBy, widthBy, widthAfter, opens, openAfter, wasBusy, Decided, matches, isUsable, AllDecided, IgnoredExactlyWhenBusy}
 use Rattle.mirror.specs.Busy.Open.{none, first}
 use Rattle.mirror.specs.declared.half.Half.{Half}
 use Rattle.mirror.specs.declared.half.Half.the-variants.{Empty, Ignored, Waiting}
@@ -50,7 +50,7 @@ not-free time end = by (leb end time) refl where
   by true e = sym (le-ltb time end (leb-true end time e))
   by false e = sym (lt-ltb time end (leb-false end time e))
 
-untorn : (r w : Bool) {log : List ℕ} (e : Entry) → e .bytes ≡ log → (Bool·beq r (rsOf (e .bytes)) && Bool·beq w (rwOf (e .bytes))) ≡ true →
+untorn : (r w : Bool) {log : List ℕ} (e : Noted) → e .bytes ≡ log → (Bool·beq r (rsOf (e .bytes)) && Bool·beq w (rwOf (e .bytes))) ≡ true →
     (not (Bool·beq r (rsOf log)) || not (Bool·beq w (rwOf log))) ≡ false
 untorn r w e i m =
     let x = Bool·beq r (rsOf (e .bytes)) in
@@ -58,7 +58,7 @@ untorn r w e i m =
     ap (λ s. not (Bool·beq r (rsOf s)) || not (Bool·beq w (rwOf s))) (sym i) ∙ ap (λ b. not b || not y) (and-first x y m) ∙ ap not (and-second x y m)
 
 -- what makes a transfer usable, part by part
-record Fit (o : Open) (e : Entry) : Type 0 where
+record Fit (o : Open) (e : Noted) : Type 0 where
   uncut : cutAt (e .bytes) ≡ false
   good : badAt (e .bytes) ≡ false
   transfer : isTransfer (e .bytes) ≡ true
@@ -66,7 +66,7 @@ record Fit (o : Open) (e : Entry) : Type 0 where
   unlike : isStatus (e .bytes) ≡ false
   pair : matches o e ≡ true
 
-fits : (o : Open) (e : Entry) → isUsable o e ≡ true → Fit o e
+fits : (o : Open) (e : Noted) → isUsable o e ≡ true → Fit o e
 fits o e u =
     let a = not (cutAt (e .bytes)) in
     let b = not (badAt (e .bytes)) in
@@ -89,14 +89,14 @@ fits o e u =
 -- an open first half agrees with the half that waits
 pub data Agrees : Open → Half → Type 0 where
   closed : Agrees none Empty
-  deaf : {f : Entry} → eqb (f .number) 3 ≡ true → wasBusy f ≡ true → Agrees (first f) (Ignored (rsOf (f .bytes)) (rwOf (f .bytes)))
-  kept : {f : Entry} {nibble : ℕ} →
+  deaf : {f : Noted} → eqb (f .number) 3 ≡ true → wasBusy f ≡ true → Agrees (first f) (Ignored (rsOf (f .bytes)) (rwOf (f .bytes)))
+  kept : {f : Noted} {nibble : ℕ} →
       eqb (f .number) 3 ≡ false → (isStatus (f .bytes) ≡ false → wasBusy f ≡ false) → (rwOf (f .bytes) ≡ false → nibble ≡ dataOf (f .bytes) / 16) →
       Agrees (first f) (Waiting (rsOf (f .bytes)) (rwOf (f .bytes)) nibble)
 
 module _ (p : Panel) (log : List ℕ) where
   -- the entry if it were answered with a number
-  abbrev entry : ℕ → Entry
+  abbrev entry : ℕ → Noted
   entry n = record { bytes = log; number = n; until = p .busy; last = p .last }
 
   -- a complete write or data read is decided as it began
@@ -116,20 +116,20 @@ module _ (p : Panel) (log : List ℕ) where
       record { own = e ∙ sym b ∙ sym idle; began = three ∙ sym idle }
 
   -- a second half that matches does not tear the pair
-  whole-pair : (o : Open) (e : Entry) {half : Half} → Agrees o half → e .bytes ≡ log → matches o e ≡ true → differs half (rsOf log) (rwOf log) ≡ false
+  whole-pair : (o : Open) (e : Noted) {half : Half} → Agrees o half → e .bytes ≡ log → matches o e ≡ true → differs half (rsOf log) (rwOf log) ≡ false
   whole-pair none e closed i m = refl
   whole-pair (first f) e (deaf three busy) i m = untorn (rsOf (f .bytes)) (rwOf (f .bytes)) e i m
   whole-pair (first f) e (kept three busy nib) i m = untorn (rsOf (f .bytes)) (rwOf (f .bytes)) e i m
 
   -- a usable transfer is judged whatever it is answered
-  decided : (o : Open) → Agrees o (p .half) → soundPanel p ≡ true → isUsable o (entryOf p log) ≡ true → Decided (begunBy o (entryOf p log)) (entryOf p log)
+  decided : (o : Open) → Agrees o (p .half) → soundPanel p ≡ true → isUsable o (notedAs p log) ≡ true → Decided (begunBy o (notedAs p log)) (notedAs p log)
   decided o h sound u = by (answerTo p log) (answer-case p log)
     where
-      fit : Fit o (entryOf p log)
-      fit = fits o (entryOf p log) u
+      fit : Fit o (notedAs p log)
+      fit = fits o (notedAs p log) u
 
       whole : differs (p .half) (rsOf log) (rwOf log) ≡ false
-      whole = whole-pair o (entryOf p log) h refl (fit .pair)
+      whole = whole-pair o (notedAs p log) h refl (fit .pair)
 
       by : (n : ℕ) → Case p log n → Decided (begunBy o (entry n)) (entry n)
       by n (unsound a) = absurd (false≢true (sym a ∙ sound))
@@ -169,7 +169,7 @@ module _ (p : Panel) (log : List ℕ) where
   begun false (first e) (deaf three busy) f b = absurd (false≢true f)
   begun false (first e) (kept three busy nib) f b = absurd (false≢true f)
 
-  pub agrees : (o : Open) → Agrees o (p .half) → Agrees (openAfter (p .sheet .registers .eight) o (entryOf p log)) (panelAfter p log .half)
+  pub agrees : (o : Open) → Agrees o (p .half) → Agrees (openAfter (p .sheet .registers .eight) o (notedAs p log)) (panelAfter p log .half)
   agrees o h = each-row p log (λ n q. Agrees (openAfter eight o (entry n)) (q .half)) by where
     eight : Bool
     eight = p .sheet .registers .eight
@@ -202,7 +202,7 @@ module _ (p : Panel) (log : List ℕ) where
       ap (λ x. x * 16 + dataOf log / 16) (sym (nib (j ∙ w)) ∙ sym (mod-eq-of-lt (ltb-true n 16 fits)))
 
   -- and so is the width
-  pub width : (o : Open) → Agrees o (p .half) → widthAfter (p .sheet .registers .eight) o (entryOf p log) ≡ panelAfter p log .sheet .registers .eight
+  pub width : (o : Open) → Agrees o (p .half) → widthAfter (p .sheet .registers .eight) o (notedAs p log) ≡ panelAfter p log .sheet .registers .eight
   width o h = each-row p log (λ n q. widthAfter eight o (entry n) ≡ q .sheet .registers .eight) by where
     eight : Bool
     eight = p .sheet .registers .eight
@@ -231,13 +231,13 @@ module _ (p : Panel) (log : List ℕ) where
         (step (rsOf log) (rwOf log) b (byte-same eight o h (parts p (c .paired .heard .sound) .half) a (c .minded) (c .paired .whole)))
 
 -- records that follow each other
-all-decided : (fs : List (List ℕ)) (p : Panel) (o : Open) → Agrees o (p .half) → Lasts p → AllData fs → AllDecided (p .sheet .registers .eight) o (entriesFrom p fs)
+all-decided : (fs : List (List ℕ)) (p : Panel) (o : Open) → Agrees o (p .half) → Lasts p → AllData fs → AllDecided (p .sheet .registers .eight) o (notedFrom p fs)
 all-decided [] p o h l d = tt
 all-decided (f ∷ fs) p o h l d =
-    let e = entryOf p f in
+    let e = notedAs p f in
     let eight = p .sheet .registers .eight in (
       decided p f o h (whole p (l .sound)),
-      subst (λ b. AllDecided b (openAfter eight o e) (entriesFrom (panelAfter p f) fs)) (sym (width p f o h))
+      subst (λ b. AllDecided b (openAfter eight o e) (notedFrom (panelAfter p f) fs)) (sym (width p f o h))
           (all-decided fs (panelAfter p f) (openAfter eight o e) (agrees p f o h) (record-lasts p f (d .0) l) (d .1)),
     )
 

@@ -16,7 +16,7 @@ use Rattle.mirror.specs.Words.{joinedOf, free, done}
 use Rattle.mirror.specs.engine.Record.{recorded, went, transferred, answered}
 use Rattle.mirror.specs.Table.{waits, isFirst, differs, tears, isStatus, busyAt, ignores, isNone, isBack, transferFor, heardFor, numberFor, byteFor, panelFor, usedFor, Tabled, rowOf, wholeAt, rowWith, rowFor, recordOf}
 use Rattle.mirror.specs.laws.SoundParts.{Sound, parts}
-use Rattle.mirror.specs.Answer.{numberOf, answerOf, carried, Paper, paper}
+use Rattle.mirror.specs.Answer.{numberOf, answerOf, busByte, Paper, paper}
 use Rattle.mirror.specs.Promise.{Records}
 use Rattle.mirror.specs.declared.answer.Answer.{Answer}
 use Rattle.mirror.specs.declared.answer.Answer.the-variants as say
@@ -218,7 +218,7 @@ numbered p log false = by (cutAt log) (badAt log) (isBack p log) (isReset log) (
     by false false false false false false false false true = refl
     by false false false false false false false false false = refl
 
-carries : (a : Answer) (n : ℕ) (p : Panel) (log : List ℕ) → answerOf n ≡ a → numberOf (answerOf n) ≡ n → carried a (byteFor n p log) ≡ byteFor n p log
+carries : (a : Answer) (n : ℕ) (p : Panel) (log : List ℕ) → answerOf n ≡ a → numberOf (answerOf n) ≡ n → busByte a (byteFor n p log) ≡ byteFor n p log
 carries say.Taken n p log e k = refl
 carries say.Held n p log e k = refl
 carries say.Status n p log e k = refl
@@ -237,7 +237,7 @@ tabled p log =
     let k = numbered p log (not (soundPanel p)) in
     record {
       paper =
-          ap (λ x. record { number = x; byte = carried (answerOf n) (byteFor n p log) }) k
+          ap (λ x. record { number = x; byte = busByte (answerOf n) (byteFor n p log) }) k
           ∙ ap (λ x. record { number = n; byte = x }) (carries (answerOf n) n p log refl k);
       byte = refl;
       panel = refl;

@@ -6,7 +6,7 @@ use mathlib.Core.List.{List, _∷_, _++_}
 use lib.ListN.{replicate}
 use Rattle.dots.specs.Bit.{pack}
 use Rattle.dots.specs.Table.{table, sum}
-use Rattle.dots.specs.Landing.{frameOf, countOf}
+use Rattle.dots.specs.Landing.{dotsFrame, countOf}
 use Rattle.chip.specs.Sheet.{freshSheet}
 use Rattle.chip.specs.Step.{obeyed}
 use Rattle.chip.specs.declared.sheet.Sheet.{Sheet}
@@ -27,6 +27,6 @@ case-L-count : countOf glass (lit underlined (replicate fontSize 0) false) ≡ 5
 unfolding countOf lit sum table
 case-L-count = refl
 
-case-L-frame : frameOf glass (lit underlined (replicate fontSize 0) false) ≡ replicate 70 0 ++ 0xF8 ∷ replicate 9 0
-unfolding frameOf lit table pack
+case-L-frame : dotsFrame glass (lit underlined (replicate fontSize 0) false) ≡ replicate 70 0 ++ 0xF8 ∷ replicate 9 0
+unfolding dotsFrame lit table pack
 case-L-frame = refl

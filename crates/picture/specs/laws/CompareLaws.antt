@@ -15,7 +15,7 @@ use Rattle.dots.specs.First.{first, firstDot}
 use Rattle.dots.specs.laws.FirstLaws.{first-dot-says}
 use Rattle.dots.specs.First.{Before}
 use Rattle.picture.specs.Frame.{glass}
-use Rattle.picture.specs.Compare.{Compares, Paper, paper, differ, placeFor, comparedOf, FirstDifference, SameDots, Means}
+use Rattle.picture.specs.Compare.{Compares, ComparePaper, comparePaper, differ, placeFor, comparedOf, FirstDifference, SameDots, Means}
 use Rattle.picture.specs.declared.compare.Compared.{Compared}
 use Rattle.picture.specs.declared.compare.Compared.the-variants.{At, Same, Size}
 
@@ -86,21 +86,21 @@ module _ {A B : Type 0} (f : A → B) where
 pub compares : (a b : List ℕ) (answer : Compared) → answer ≡ comparedOf a b → Compares a b answer
 compares a b answer e = record {
   told = e;
-  paper = ap paper e ∙ by (not (eqb (length a) (glass .size))) (not (eqb (length b) (glass .size)))
+  paper = ap comparePaper e ∙ by (not (eqb (length a) (glass .size))) (not (eqb (length b) (glass .size)))
       (firstDot (differ a b) At Same (glass .cols) 0 (glass .rows))
-      (first-dot-says (differ a b) At Same (glass .cols) (λ c. paper c .number ≡ none) 0 (glass .rows) (λ _ _ _ _ _ _ _. refl) (λ _. refl))
-      (first-dot-said (λ c. paper c .place) (differ a b) At Same (glass .cols) 0 (glass .rows));
+      (first-dot-says (differ a b) At Same (glass .cols) (λ c. comparePaper c .number ≡ none) 0 (glass .rows) (λ _ _ _ _ _ _ _. refl) (λ _. refl))
+      (first-dot-said (λ c. comparePaper c .place) (differ a b) At Same (glass .cols) 0 (glass .rows));
 }
   where
-    by : (p q : Bool) (c : Compared) → paper c .number ≡ none → paper c .place ≡ placeFor none a b
-        → paper (pick p Size (pick q Size c))
+    by : (p q : Bool) (c : Compared) → comparePaper c .number ≡ none → comparePaper c .place ≡ placeFor none a b
+        → comparePaper (pick p Size (pick q Size c))
         ≡ record { number = pick p (some 9) (pick q (some 9) none); place = placeFor (pick p (some 9) (pick q (some 9) none)) a b }
     by true q c h k = refl
     by false true c h k = refl
     by false false c h k = ap₂ (λ (n : Option ℕ) (place : Option (ℕ × ℕ)). record { number = n; place = place }) h k
 
 -- a refused comparison names no place
-pub refused-nowhere : (c : Compared) (n : ℕ) → paper c .number ≡ some n → paper c .place ≡ none
+pub refused-nowhere : (c : Compared) (n : ℕ) → comparePaper c .number ≡ some n → comparePaper c .place ≡ none
 refused-nowhere (At r x) n e = absurd (none-some e)
   where
     none-some : none ≡ some n → ⊥

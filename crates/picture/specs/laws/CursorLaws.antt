@@ -2,15 +2,15 @@
 use Prim.Native.Nat.{ℕ, _+_, _-_, _%_, _<_}
 use mathlib.Core.Path.{_≡_}
 use native.Mathlib.Omega.{arith}
-use Rattle.chip.specs.Address.{displaySize, numberOf, display}
+use Rattle.chip.specs.Address.{displaySize, addressNumber, display}
 use Rattle.chip.specs.declared.address.Address.{Address}
 use Rattle.chip.specs.declared.address.Address.the-variants.{Display, Pattern}
 use Rattle.chip.specs.declared.address.PatternAddress.{PatternAddress}
 use Rattle.picture.specs.Cursor.{positionOf}
 
 -- the position that shows the address: (position + shift) mod 16 is the address mod 16
-pub position-shows : (address : Address) (shift : ℕ) → (positionOf address shift + shift) % displaySize ≡ numberOf address % displaySize
-position-shows address shift = there (numberOf address) shift
+pub position-shows : (address : Address) (shift : ℕ) → (positionOf address shift + shift) % displaySize ≡ addressNumber address % displaySize
+position-shows address shift = there (addressNumber address) shift
   where
     there : (n k : ℕ) → ((n + (displaySize - k % displaySize)) % displaySize + k) % displaySize ≡ n % displaySize
     there n k = omega arith

@@ -10,7 +10,7 @@ use lib.Dec.{eqb}
 use lib.ListN.{length, replicate}
 use Rattle.laws.specs.Pick.{pick}
 use Rattle.dots.specs.Bit.{one}
-use Rattle.dots.specs.Landing.{dot, frameOf, countOf}
+use Rattle.dots.specs.Landing.{dot, dotsFrame, countOf}
 use Rattle.dots.specs.laws.LandingLaws.{dot-frame, length-frame}
 use Rattle.dots.specs.engine.Cells.{line}
 use Rattle.dots.specs.laws.CellsLaws.{page-frame, page-count, one-line, one-line-sum}
@@ -22,7 +22,7 @@ use Rattle.picture.specs.Frame.{lines, across, glass, litAt}
 use Rattle.picture.specs.Picture.{lit}
 use Rattle.picture.specs.engine.Shown.{PutsLine, lineDot}
 use Rattle.picture.specs.laws.ShownLaws.{shown-lit}
-use Rattle.picture.specs.Paint.{Paints, Paper, paper, dotsFor, paintedOf, frameAfter}
+use Rattle.picture.specs.Paint.{Paints, PaintPaper, paintPaper, dotsFor, paintedOf, frameAfter}
 use Rattle.picture.specs.declared.paint.Painted.{Painted}
 use Rattle.picture.specs.declared.paint.Painted.the-variants.{Lit, Size, Unsound}
 
@@ -33,7 +33,7 @@ module _ (s : Sheet) (font : List ℕ) (dark : Bool) where
       let first : i ≡ l * tall + i = omega arith in
       shown-lit s font dark p i c hi hc ∙ ap (λ (r : ℕ). one (lit s font dark r (p * wide + c))) first
 
-  pub line-frame : (f after : List ℕ) (n : ℕ) → f ≡ replicate (glass .size) 0 → PutsLine s font dark f after n → after ≡ frameOf glass (lit s font dark)
+  pub line-frame : (f after : List ℕ) (n : ℕ) → f ≡ replicate (glass .size) 0 → PutsLine s font dark f after n → after ≡ dotsFrame glass (lit s font dark)
   line-frame f after n e P =
       P .frame ∙ ap (line glass tall wide across (lineDot s font dark) 0) e
       ∙ sym (one-line glass tall wide across (λ l. lineDot s font dark) (replicate (glass .size) 0))
@@ -50,14 +50,14 @@ module _ (panel : Panel) (font : List ℕ) (dark : Bool) (frame : List ℕ) wher
       → Paints panel font dark frame answer after
   paints answer after told left = record {
     told = told;
-    paper = ap paper told ∙ by (not (soundPanel panel)) (not (eqb (length font) fontSize)) (not (eqb (length frame) (glass .size)));
+    paper = ap paintPaper told ∙ by (not (soundPanel panel)) (not (eqb (length font) fontSize)) (not (eqb (length frame) (glass .size)));
     left = left;
   }
     where
       number : Bool → Bool → Bool → Option ℕ
       number p q t = pick p (some 10) (pick q (some 9) (pick t (some 9) none))
 
-      by : (p q t : Bool) → paper (pick p Unsound (pick q Size (pick t Size (Lit (dotsFor none panel font dark)))))
+      by : (p q t : Bool) → paintPaper (pick p Unsound (pick q Size (pick t Size (Lit (dotsFor none panel font dark)))))
           ≡ record { number = number p q t; dots = dotsFor (number p q t) panel font dark }
       by true q t = refl
       by false true t = refl
@@ -87,42 +87,42 @@ module _ (panel : Panel) (font : List ℕ) (dark : Bool) (frame : List ℕ) wher
 
   -- whatever holds of the two refusals, with the frame as it was, and of the painting, holds
   pub painting-is : (P : Painted → List ℕ → Type 0) → P Unsound frame → P Size frame
-      → P (Lit (countOf glass (lit (panel .sheet) font dark))) (frameOf glass (lit (panel .sheet) font dark))
+      → P (Lit (countOf glass (lit (panel .sheet) font dark))) (dotsFrame glass (lit (panel .sheet) font dark))
       → P (paintedOf panel font dark frame) (frameAfter panel font dark frame)
   painting-is P unsound size painted = by (not (soundPanel panel)) (not (eqb (length font) fontSize)) (not (eqb (length frame) (glass .size)))
     where
       by : (p q t : Bool)
           → P (pick p Unsound (pick q Size (pick t Size (Lit (countOf glass (lit (panel .sheet) font dark))))))
-          (pick p frame (pick q frame (pick t frame (frameOf glass (lit (panel .sheet) font dark)))))
+          (pick p frame (pick q frame (pick t frame (dotsFrame glass (lit (panel .sheet) font dark)))))
       by true q t = unsound
       by false true t = size
       by false false true = size
       by false false false = painted
 
   -- a refused painting reports 0 lit dots and leaves every byte as it was
-  pub refused-leaves : (n : ℕ) → paper (paintedOf panel font dark frame) .number ≡ some n
-      → (paper (paintedOf panel font dark frame) .dots ≡ 0) × (frameAfter panel font dark frame ≡ frame)
+  pub refused-leaves : (n : ℕ) → paintPaper (paintedOf panel font dark frame) .number ≡ some n
+      → (paintPaper (paintedOf panel font dark frame) .dots ≡ 0) × (frameAfter panel font dark frame ≡ frame)
   refused-leaves n =
-      painting-is (λ a f. paper a .number ≡ some n → (paper a .dots ≡ 0) × (f ≡ frame)) (λ _. (refl, refl)) (λ _. (refl, refl))
+      painting-is (λ a f. paintPaper a .number ≡ some n → (paintPaper a .dots ≡ 0) × (f ≡ frame)) (λ _. (refl, refl)) (λ _. (refl, refl))
       (λ e. absurd (let z : _≡_ {A = ℕ} 0 1 = cc in omega arith))
 
   -- a painting that goes well shows a dot exactly where it is lit, and answers the number of those dots
-  pub painted-dots : paper (paintedOf panel font dark frame) .number ≡ none
-      → (paper (paintedOf panel font dark frame) .dots ≡ countOf glass (lit (panel .sheet) font dark))
+  pub painted-dots : paintPaper (paintedOf panel font dark frame) .number ≡ none
+      → (paintPaper (paintedOf panel font dark frame) .dots ≡ countOf glass (lit (panel .sheet) font dark))
       × ((r x : ℕ) → r < glass .rows → x < glass .cols → dot glass (frameAfter panel font dark frame) r x ≡ one (lit (panel .sheet) font dark r x))
   painted-dots =
       painting-is
-      (λ a f. paper a .number ≡ none
-      → (paper a .dots ≡ countOf glass (lit (panel .sheet) font dark))
+      (λ a f. paintPaper a .number ≡ none
+      → (paintPaper a .dots ≡ countOf glass (lit (panel .sheet) font dark))
       × ((r x : ℕ) → r < glass .rows → x < glass .cols → dot glass f r x ≡ one (lit (panel .sheet) font dark r x)))
       (λ e. absurd (let z : _≡_ {A = ℕ} 0 1 = cc in omega arith)) (λ e. absurd (let z : _≡_ {A = ℕ} 0 1 = cc in omega arith))
       (λ _. (refl, dot-frame glass (lit (panel .sheet) font dark)))
 
   -- and read dot by dot it is the picture
-  pub painted-lit : paper (paintedOf panel font dark frame) .number ≡ none → (r x : ℕ) → r < glass .rows → x < glass .cols
+  pub painted-lit : paintPaper (paintedOf panel font dark frame) .number ≡ none → (r x : ℕ) → r < glass .rows → x < glass .cols
       → litAt (frameAfter panel font dark frame) r x ≡ lit (panel .sheet) font dark r x
   painted-lit h r x p q =
-      painting-is (λ a f. paper a .number ≡ none → litAt f r x ≡ lit (panel .sheet) font dark r x)
+      painting-is (λ a f. paintPaper a .number ≡ none → litAt f r x ≡ lit (panel .sheet) font dark r x)
       (λ e. absurd (let z : _≡_ {A = ℕ} 0 1 = cc in omega arith)) (λ e. absurd (let z : _≡_ {A = ℕ} 0 1 = cc in omega arith))
       (λ _. rw (eq-eqb _ _ (length-frame glass (lit (panel .sheet) font dark)), lt-leb _ _ p, lt-leb _ _ q, dot-frame glass (lit (panel .sheet) font dark) r x p q)
       (one-eqb (lit (panel .sheet) font dark r x)))

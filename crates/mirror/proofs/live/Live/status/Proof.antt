@@ -1,6 +1,6 @@
 use mathlib.Core.Path.{ap, _∙_}
 use native.Mathlib.Omega.{arith}
-use Rattle.chip.specs.Address.{numberOf}
+use Rattle.chip.specs.Address.{addressNumber}
 use Rattle.chip.specs.laws.StepLaws.{number-small}
 use Rattle.mirror.specs.engine.Flat.{addressOf}
 use borrow.Author.Needs.{needs}
@@ -19,7 +19,7 @@ free-requires c κs = search needs
 add-result : tie.Need-add-result
 add-result c =
     let k = c .before .before .before .before .args .self in
-    omega (arith, c .before .before .number .ensures ∙ ap numberOf (c .before .before .before .address .ensures), number-small (addressOf (k .patterned) (k .place)))
+    omega (arith, c .before .before .number .ensures ∙ ap addressNumber (c .before .before .before .address .ensures), number-small (addressOf (k .patterned) (k .place)))
 
 returns : tie.Need-returns
 returns c t d p = rw (c .before .before .number .ensures, c .before .before .before .address .ensures, ← c .before .free .ensures, c .if1 .taken)
