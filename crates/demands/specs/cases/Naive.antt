@@ -5,13 +5,13 @@ use mathlib.Core.Path.{_≡_, refl, ap}
 use mathlib.Core.Bool.{Bool, true}
 use mathlib.Core.List.{List, [], _∷_, _++_}
 use lib.ListN.{getD}
+use lib.Dec.{ltb, eqb}
 use Rattle.laws.specs.Pick.{pick}
 use Rattle.log.specs.Frames.{joined}
 use Rattle.chip.specs.Address.{addressNumber}
 use Rattle.chip.specs.declared.sheet.Sheet.{Sheet}
+use Rattle.mirror.specs.Answer.{numberOf}
 use Rattle.mirror.specs.Panel.{soundPanel}
-use Rattle.mirror.specs.declared.answer.Answer.{Answer}
-use Rattle.mirror.specs.declared.answer.Answer.the-variants as say
 use Rattle.mirror.specs.declared.half.Half.{Half}
 use Rattle.mirror.specs.declared.half.Half.the-variants.{Empty, Ignored, Waiting}
 use Rattle.mirror.specs.declared.panel.Panel.{Panel}
@@ -30,20 +30,12 @@ AsBefore left =
     let all = answersBy ours casePanel log in
     numbers (answersBy ours casePanel (joined (events (left all)))) ≡ numbers (left all)
 
--- FALSE: a record goes or stays by its own answer alone. The first half of a status read is left, and tears the pair that follows
-abbrev alone : Answer → Sort
-alone say.Taken = sorted stays leaves
-alone say.Held = sorted stays leaves
-alone say.Status = sorted goes leaves
-alone say.Ignored = sorted goes leaves
-alone say.Torn = sorted goes leaves
-alone say.Back = sorted goes leaves
-alone say.Bad = sorted goes leaves
-alone say.Nothing = sorted goes leaves
-alone say.Cut = sorted goes leaves
-alone say.Unsound = sorted goes leaves
+-- records go where their own answer's number passes a test, and stay otherwise; none looks at another
+abbrev byNumber : (ℕ → Bool) → List ℕ → Reply → Sort
+byNumber test bytes r = sorted (pick (test (numberOf (r .answer))) goes stays) leaves
 
-pub not-alone : ¬ AsBefore (unstruck (λ bytes r. alone (r .answer)))
+-- FALSE: a record goes or stays by its own answer alone, 2 and more. The first half of a status read is left, and tears the pair that follows
+pub not-alone : ¬ AsBefore (unstruck (byNumber (λ n. ltb 1 n)))
 unfolding answering
 not-alone h =
     let log = instructAt 0 0x20 ++ statusAt 40 ++ statusAt 41 ++ instructAt 42 0x80 ++ instructAt 43 0x50 in
@@ -67,19 +59,7 @@ not-before h =
     omega arith
 
 -- FALSE: status reads alone can be struck. Without the one at 2,000 the write at 1,800 is no longer back in time
-abbrev some : Answer → Sort
-some say.Taken = sorted stays leaves
-some say.Held = sorted stays leaves
-some say.Status = sorted goes leaves
-some say.Ignored = sorted stays leaves
-some say.Torn = sorted stays leaves
-some say.Back = sorted stays leaves
-some say.Bad = sorted stays leaves
-some say.Nothing = sorted stays leaves
-some say.Cut = sorted stays leaves
-some say.Unsound = sorted stays leaves
-
-pub not-some : ¬ AsBefore (unstruck (λ bytes r. some (r .answer)))
+pub not-some : ¬ AsBefore (unstruck (byNumber (λ n. eqb n 2)))
 unfolding answering
 not-some h =
     let log = instructAt 100 0x01 ++ statusAt 2_000 ++ writeAt 1_800 0x57 in
