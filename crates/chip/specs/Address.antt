@@ -4,18 +4,11 @@ use mathlib.Core.Bool.{Bool}
 use mathlib.Core.List.{List}
 use lib.ListN.{getD, set}
 use Rattle.laws.specs.Ring.{moved}
+use Rattle.chip.specs.Sizes.{displaySize, patternSize, rowEnd}
 use Rattle.chip.specs.declared.address.DisplayAddress.{DisplayAddress}
 use Rattle.chip.specs.declared.address.PatternAddress.{PatternAddress}
 use Rattle.chip.specs.declared.address.Address.{Address}
 use Rattle.chip.specs.declared.address.Address.the-variants.{Display, Pattern}
-
--- display memory: 16 bytes
-abbrev pub displaySize : ℕ
-displaySize = 16
-
--- pattern memory: 32 entries
-abbrev pub patternSize : ℕ
-patternSize = 32
 
 abbrev pub display : ℕ → DisplayAddress
 display n = record { 0 = n }
@@ -46,11 +39,11 @@ writtenDisplay d byte memory = set memory (d .0 % displaySize) byte
 
 -- the entry at a pattern address: upper three bits 0
 abbrev pub readPattern : PatternAddress → List ℕ → ℕ
-readPattern p memory = getD memory (p .0 % patternSize) 0 % 32
+readPattern p memory = getD memory (p .0 % patternSize) 0 % rowEnd
 
 -- the low five bits stored at a pattern address
 abbrev pub writtenPattern : PatternAddress → ℕ → List ℕ → List ℕ
-writtenPattern p byte memory = set memory (p .0 % patternSize) (byte % 32)
+writtenPattern p byte memory = set memory (p .0 % patternSize) (byte % rowEnd)
 
 -- the address as a status read shows it, bits 6 to 0
 abbrev pub addressNumber : Address → ℕ

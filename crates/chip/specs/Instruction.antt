@@ -3,6 +3,7 @@ use Prim.Native.Nat.{ℕ, _-_, _%_, _/_}
 use mathlib.Core.Bool.{Bool}
 use lib.Dec.{ltb, eqb}
 use Rattle.laws.specs.Pick.{pick}
+use Rattle.chip.specs.Sizes.{displaySize, patternSize, functionEnd}
 use Rattle.chip.specs.Address.{display, pattern}
 use Rattle.chip.specs.declared.address.Address.the-variants.{Display, Pattern}
 use Rattle.chip.specs.declared.instruction.Instruction.{Instruction}
@@ -28,6 +29,6 @@ decoded code =
     (pick (ltb code 0x10) (Screen (isSet 4 code) (isSet 2 code) (isSet 1 code))
     (pick (ltb code 0x18) (Move (isSet 4 code))
     (pick (ltb code 0x20) (Shift (unset 4 code))
-    (pick (ltb code 0x40) (Function (isSet 16 code) (code % 16))
-    (pick (ltb code 0x80) (Set (Pattern (pattern (code % 32))))
-    (Set (Display (display (code % 16))))))))))))
+    (pick (ltb code 0x40) (Function (isSet 0x10 code) (code % functionEnd))
+    (pick (ltb code 0x80) (Set (Pattern (pattern (code % patternSize))))
+    (Set (Display (display (code % displaySize))))))))))))

@@ -1,3 +1,4 @@
+pub mod Sizes
 pub mod Address
 pub mod Instruction
 pub mod Sheet

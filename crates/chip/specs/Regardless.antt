@@ -1,11 +1,11 @@
 -- THE FUNCTION SET BITS have no effect (document 01, "The panel"): what that says of a step.
 use mathlib.Core.Path.{_≡_}
-use Rattle.chip.specs.Sheet.{withFunction}
+use Rattle.chip.specs.Step.{functionSet}
 use Rattle.chip.specs.declared.sheet.Sheet.{Sheet}
 
 -- a sheet with these bits forgotten
 abbrev pub bitless : Sheet → Sheet
-bitless s = withFunction (s .registers .eight) 0 s
+bitless s = functionSet (s .registers .eight) 0 s
 
 -- a step has no regard for them: sheets that are alike but for these bits become alike but for these bits
 abbrev pub Regardless : (Sheet → Sheet) → Type 0

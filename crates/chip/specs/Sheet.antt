@@ -4,7 +4,8 @@ use mathlib.Core.Path.{_≡_}
 use mathlib.Core.Bool.{Bool, true, false}
 use mathlib.Core.List.{List}
 use lib.ListN.{replicate}
-use Rattle.chip.specs.Address.{displaySize, patternSize, display, readDisplay, readPattern}
+use Rattle.chip.specs.Sizes.{displaySize, patternSize}
+use Rattle.chip.specs.Address.{display, readDisplay, readPattern}
 use Rattle.chip.specs.declared.address.Address.{Address}
 use Rattle.chip.specs.declared.address.Address.the-variants.{Display, Pattern}
 use Rattle.chip.specs.declared.registers.Registers.{Registers}
@@ -57,8 +58,8 @@ abbrev pub StepsBoth : (Sheet → Sheet) → Registers → List ℕ → List ℕ
 StepsBoth f r d p r' d' p' = sheetOf r' d' p' ≡ f (sheetOf r d p)
 
 -- a sheet with one part set anew
-abbrev pub withRegisters : Registers → Sheet → Sheet
-withRegisters r s = sheetOf r (s .display) (s .pattern)
+abbrev pub onRegisters : (Registers → Registers) → Sheet → Sheet
+onRegisters f s = sheetOf (f (s .registers)) (s .display) (s .pattern)
 
 abbrev pub withDisplay : List ℕ → Sheet → Sheet
 withDisplay d s = sheetOf (s .registers) d (s .pattern)
@@ -66,37 +67,18 @@ withDisplay d s = sheetOf (s .registers) d (s .pattern)
 abbrev pub withPattern : List ℕ → Sheet → Sheet
 withPattern p s = sheetOf (s .registers) (s .display) p
 
-abbrev pub withAddress : Address → Sheet → Sheet
-withAddress a s =
-    let r = s .registers in
-    withRegisters
-    (record { address = a; shift = r .shift; up = r .up; follow = r .follow; on = r .on; cursor = r .cursor; blink = r .blink; eight = r .eight; function = r .function })
-    s
+-- registers with what is set together set anew
+abbrev pub withAddress : Address → Registers → Registers
+withAddress a r = record { address = a; shift = r .shift; up = r .up; follow = r .follow; on = r .on; cursor = r .cursor; blink = r .blink; eight = r .eight; function = r .function }
 
-abbrev pub withShift : ℕ → Sheet → Sheet
-withShift n s =
-    let r = s .registers in
-    withRegisters
-    (record { address = r .address; shift = n; up = r .up; follow = r .follow; on = r .on; cursor = r .cursor; blink = r .blink; eight = r .eight; function = r .function })
-    s
+abbrev pub withShift : ℕ → Registers → Registers
+withShift n r = record { address = r .address; shift = n; up = r .up; follow = r .follow; on = r .on; cursor = r .cursor; blink = r .blink; eight = r .eight; function = r .function }
 
-abbrev pub withEntry : Bool → Bool → Sheet → Sheet
-withEntry up follow s =
-    let r = s .registers in
-    withRegisters
-    (record { address = r .address; shift = r .shift; up = up; follow = follow; on = r .on; cursor = r .cursor; blink = r .blink; eight = r .eight; function = r .function })
-    s
+abbrev pub withEntry : Bool → Bool → Registers → Registers
+withEntry i s r = record { address = r .address; shift = r .shift; up = i; follow = s; on = r .on; cursor = r .cursor; blink = r .blink; eight = r .eight; function = r .function }
 
-abbrev pub withScreen : Bool → Bool → Bool → Sheet → Sheet
-withScreen on cursor blink s =
-    let r = s .registers in
-    withRegisters
-    (record { address = r .address; shift = r .shift; up = r .up; follow = r .follow; on = on; cursor = cursor; blink = blink; eight = r .eight; function = r .function })
-    s
+abbrev pub withScreen : Bool → Bool → Bool → Registers → Registers
+withScreen d c b r = record { address = r .address; shift = r .shift; up = r .up; follow = r .follow; on = d; cursor = c; blink = b; eight = r .eight; function = r .function }
 
-abbrev pub withFunction : Bool → ℕ → Sheet → Sheet
-withFunction eight bits s =
-    let r = s .registers in
-    withRegisters
-    (record { address = r .address; shift = r .shift; up = r .up; follow = r .follow; on = r .on; cursor = r .cursor; blink = r .blink; eight = eight; function = bits })
-    s
+abbrev pub withFunction : Bool → ℕ → Registers → Registers
+withFunction width bits r = record { address = r .address; shift = r .shift; up = r .up; follow = r .follow; on = r .on; cursor = r .cursor; blink = r .blink; eight = width; function = bits }

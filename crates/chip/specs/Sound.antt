@@ -2,9 +2,9 @@
 use Prim.Native.Nat.{ℕ}
 use mathlib.Core.Bool.{Bool, true, false, not}
 use mathlib.Core.List.{List, [], _∷_}
-use lib.Dec.{ltb}
+use lib.Dec.{ltb, leb}
 use Rattle.laws.specs.Pick.{pick}
-use Rattle.chip.specs.Address.{displaySize, patternSize}
+use Rattle.chip.specs.Sizes.{positions, displaySize, patternSize, rowEnd, functionEnd}
 use Rattle.chip.specs.declared.address.Address.{Address}
 use Rattle.chip.specs.declared.address.Address.the-variants.{Display, Pattern}
 use Rattle.chip.specs.declared.sheet.Sheet.{Sheet}
@@ -14,14 +14,14 @@ abbrev pub addressFits : Address → Bool
 addressFits (Display d) = ltb (d .0) displaySize
 addressFits (Pattern p) = ltb (p .0) patternSize
 
--- every pattern entry is at most 31
+-- every pattern entry has five bits
 unfoldable pub patternFits : List ℕ → Bool
 patternFits [] = true
-patternFits (x ∷ xs) = pick (ltb 31 x) false (patternFits xs)
+patternFits (x ∷ xs) = pick (leb rowEnd x) false (patternFits xs)
 
 -- address, shift, Function Set bits and pattern entries lie in range
 abbrev pub soundSheet : Sheet → Bool
 soundSheet s =
     pick (not (addressFits (s .registers .address))) false
-    (pick (ltb 15 (s .registers .shift)) false
-    (pick (ltb 15 (s .registers .function)) false (patternFits (s .pattern))))
+    (pick (leb positions (s .registers .shift)) false
+    (pick (leb functionEnd (s .registers .function)) false (patternFits (s .pattern))))

@@ -4,8 +4,9 @@ use mathlib.Core.Bool.{Bool, true, false}
 use lib.ListN.{replicate}
 use Rattle.laws.specs.Pick.{pick}
 use Rattle.laws.specs.Ring.{moved}
-use Rattle.chip.specs.Address.{displaySize, display, movedAddress, writtenDisplay, writtenPattern}
-use Rattle.chip.specs.Sheet.{withDisplay, withPattern, withAddress, withShift, withEntry, withScreen, withFunction}
+use Rattle.chip.specs.Sizes.{positions, displaySize}
+use Rattle.chip.specs.Address.{display, movedAddress, writtenDisplay, writtenPattern}
+use Rattle.chip.specs.Sheet.{onRegisters, withDisplay, withPattern, withAddress, withShift, withEntry, withScreen, withFunction}
 use Rattle.chip.specs.Instruction.{decoded}
 use Rattle.chip.specs.declared.address.Address.{Address}
 use Rattle.chip.specs.declared.address.Address.the-variants.{Display, Pattern}
@@ -15,35 +16,35 @@ use Rattle.chip.specs.declared.sheet.Sheet.{Sheet}
 
 -- Home: display address 0, shift 0
 abbrev pub homed : Sheet → Sheet
-homed s = withAddress (Display (display 0)) (withShift 0 s)
+homed s = onRegisters (λ r. withAddress (Display (display 0)) (withShift 0 r)) s
 
 -- Clear: 20h everywhere in display memory, display address 0, shift 0, I/D = 1; S stays
 abbrev pub cleared : Sheet → Sheet
-cleared s = withDisplay (replicate displaySize 0x20) (withEntry true (s .registers .follow) (homed s))
+cleared s = withDisplay (replicate displaySize 0x20) (onRegisters (withEntry true (s .registers .follow)) (homed s))
 
 -- the entry bits I/D and S
 abbrev pub entered : Bool → Bool → Sheet → Sheet
-entered up follow s = withEntry up follow s
+entered up follow s = onRegisters (withEntry up follow) s
 
 -- the display bits D, C and B
 abbrev pub screenSet : Bool → Bool → Bool → Sheet → Sheet
-screenSet on cursor blink s = withScreen on cursor blink s
+screenSet on cursor blink s = onRegisters (withScreen on cursor blink) s
 
 -- the address by one, within its memory
 abbrev pub stepped : Bool → Sheet → Sheet
-stepped up s = withAddress (movedAddress up (s .registers .address)) s
+stepped up s = onRegisters (withAddress (movedAddress up (s .registers .address))) s
 
 -- the shift alone: left +1, right -1, mod 16
 abbrev pub shifted : Bool → Sheet → Sheet
-shifted left s = withShift (moved displaySize left (s .registers .shift)) s
+shifted left s = onRegisters (withShift (moved positions left (s .registers .shift))) s
 
 -- the width and the low four Function Set bits
 abbrev pub functionSet : Bool → ℕ → Sheet → Sheet
-functionSet eight bits s = withFunction eight bits s
+functionSet eight bits s = onRegisters (withFunction eight bits) s
 
 -- an address set
 abbrev pub addressSet : Address → Sheet → Sheet
-addressSet a s = withAddress a s
+addressSet a s = onRegisters (withAddress a) s
 
 -- an instruction carried out
 abbrev pub acted : Instruction → Sheet → Sheet

@@ -4,11 +4,9 @@ ghost use mathlib.Core.Path.{_≡_};
 ghost use Prim.Native.Nat.{_+_};
 ghost use Rattle.laws.specs.Ring.{moved};
 ghost use Rattle.chip.specs.Address.{movedDisplay, movedPattern, movedAddress, readDisplay, writtenDisplay, readPattern, writtenPattern, addressNumber};
-
-// How many places each memory has.
-pub const DISPLAY_SIZE: usize = 16;
-
-pub const PATTERN_SIZE: usize = 32;
+use crate::sizes::DISPLAY_SIZE;
+use crate::sizes::PATTERN_SIZE;
+use crate::sizes::ROW_END;
 
 pub struct DisplayAddress(pub u8);
 
@@ -66,14 +64,14 @@ impl PatternAddress {
         ensures { λ r. ⌜ r ≡ readPattern self (now (pattern .entry)) ⌝ }
     {
         let i = self.0 as usize % PATTERN_SIZE;
-        pattern[i] % 32
+        pattern[i] % ROW_END
     }
 
     pub fn write(self, byte: u8, pattern: &mut [u8; PATTERN_SIZE])
         ensures { λ _. ⌜ now (pattern .exit) ≡ writtenPattern self byte (now (pattern .entry)) ⌝ }
     {
         let i = self.0 as usize % PATTERN_SIZE;
-        pattern[i] = byte % 32;
+        pattern[i] = byte % ROW_END;
     }
 }
 

@@ -4,6 +4,9 @@ ghost use Rattle.chip.specs.Instruction.{decoded};
 use crate::address::Address;
 use crate::address::DisplayAddress;
 use crate::address::PatternAddress;
+use crate::sizes::DISPLAY_SIZE;
+use crate::sizes::FUNCTION_END;
+use crate::sizes::PATTERN_SIZE;
 
 pub enum Instruction {
     Nothing,
@@ -27,7 +30,7 @@ pub fn decode(code: u8) -> Instruction
     let bit0 = code / 1 % 2 == 1;
     let bit1 = code / 2 % 2 == 1;
     let bit2 = code / 4 % 2 == 1;
-    let bit4 = code / 16 % 2 == 1;
+    let bit4 = code / 0x10 % 2 == 1;
     match code {
         0x00 => Instruction::Nothing,
         0x01 => Instruction::Clear,
@@ -47,9 +50,11 @@ pub fn decode(code: u8) -> Instruction
         },
         0x20..=0x3F => Instruction::Function {
             eight: bit4,
-            bits: code % 16,
+            bits: code % FUNCTION_END,
         },
-        0x40..=0x7F => Instruction::Set(Address::Pattern(PatternAddress(code % 32))),
-        _ => Instruction::Set(Address::Display(DisplayAddress(code % 16))),
+        0x40..=0x7F => Instruction::Set(Address::Pattern(PatternAddress(
+            code % PATTERN_SIZE as u8,
+        ))),
+        _ => Instruction::Set(Address::Display(DisplayAddress(code % DISPLAY_SIZE as u8))),
     }
 }

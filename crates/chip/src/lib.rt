@@ -3,3 +3,4 @@ pub mod address;
 pub mod instruction;
 pub mod registers;
 pub mod sheet;
+pub mod sizes;

@@ -4,13 +4,14 @@ ghost use mathlib.Core.Path.{_≡_};
 ghost use Rattle.chip.specs.Sheet.{Starts, Steps, StepsDisplay, StepsBoth, freshSheet, readHere};
 ghost use Rattle.chip.specs.Step.{cleared, homed, entered, screenSet, stepped, shifted, functionSet, addressSet, followed, written, passed, acted, obeyed};
 use crate::address::Address;
-use crate::address::DISPLAY_SIZE;
 use crate::address::DisplayAddress;
-use crate::address::PATTERN_SIZE;
 use crate::address::PatternAddress;
 use crate::address::step_round;
 use crate::instruction::Instruction;
 use crate::instruction::decode;
+use crate::sizes::DISPLAY_SIZE;
+use crate::sizes::PATTERN_SIZE;
+use crate::sizes::POSITIONS;
 
 // All of the sheet but its memories.
 pub struct Registers {
@@ -106,7 +107,7 @@ impl Registers {
         ensures { λ r. ⌜ Steps (shifted left) self r ⌝ }
     {
         Registers {
-            shift: step_round(self.shift, DISPLAY_SIZE as u8 - 1, left),
+            shift: step_round(self.shift, POSITIONS as u8 - 1, left),
             ..self
         }
     }

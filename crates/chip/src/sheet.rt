@@ -3,9 +3,12 @@ ghost use mathlib.Core.Path.{_≡_};
 ghost use Rattle.chip.specs.Sheet.{freshSheet};
 ghost use Rattle.chip.specs.Sound.{addressFits, patternFits, soundSheet};
 use crate::address::Address;
-use crate::address::DISPLAY_SIZE;
-use crate::address::PATTERN_SIZE;
 use crate::registers::Registers;
+use crate::sizes::DISPLAY_SIZE;
+use crate::sizes::FUNCTION_END;
+use crate::sizes::PATTERN_SIZE;
+use crate::sizes::POSITIONS;
+use crate::sizes::ROW_END;
 
 pub struct Sheet {
     pub registers: Registers,
@@ -31,7 +34,7 @@ pub fn pattern_fits(pattern: [u8; PATTERN_SIZE]) -> bool
 {
     let mut i = 0;
     while i < PATTERN_SIZE {
-        if 31 < pattern[i] {
+        if ROW_END <= pattern[i] {
             return false;
         }
         i += 1;
@@ -62,10 +65,10 @@ impl Sheet {
         if !a.fits() {
             return false;
         }
-        if 15 < r.shift {
+        if POSITIONS <= r.shift as usize {
             return false;
         }
-        if 15 < r.function {
+        if FUNCTION_END <= r.function {
             return false;
         }
         pattern_fits(pattern)

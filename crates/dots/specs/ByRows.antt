@@ -4,24 +4,9 @@ use mathlib.Core.Path.{_≡_, refl, ap, _∙_}
 use mathlib.Core.Bool.{true}
 use native.Mathlib.Nat.{div-add-mod'}
 use native.Mathlib.Omega.{arith}
-use Rattle.dots.specs.Parts.{place-in, part-back, place-back, part-of, place-of}
+use Rattle.dots.specs.laws.PartsLaws.{place-in, part-back, place-back, part-of, place-of}
+use Rattle.dots.specs.laws.ColumnLaws.{column-in, column-byte, column-bit, column-back, byte-in}
 use Rattle.dots.specs.Landing.{Landing}
-
--- the column of bit i of byte k of a row, and back
-pub column-in : (n k i : ℕ) → k < n → 8 * k + (7 - i) < 8 * n
-column-in n k i p = omega arith
-
-pub column-byte : (k i : ℕ) → (8 * k + (7 - i)) / 8 ≡ k
-column-byte k i = omega arith
-
-pub column-bit : (k i : ℕ) → i < 8 → 7 - (8 * k + (7 - i)) % 8 ≡ i
-column-bit k i p = omega arith
-
-pub column-back : (x : ℕ) → 8 * (x / 8) + (7 - (7 - x % 8)) ≡ x
-column-back x = omega arith
-
-pub byte-in : (n x : ℕ) → x < 8 * n → x / 8 < n
-byte-in n x p = omega arith
 
 -- m rows of n bytes; every bit is some dot's
 abbrev pub byRows : ℕ → ℕ → Landing

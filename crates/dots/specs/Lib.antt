@@ -1,6 +1,5 @@
 pub mod Bit
 pub mod Table
-pub mod Parts
 pub mod Landing
 pub mod ByRows
 pub mod First

@@ -1,6 +1,6 @@
 // The mirror program: reads a log on standard input, and prints the counts, the address and the codes.
 use chip::address::Address;
-use chip::address::DISPLAY_SIZE;
+use chip::sizes::DISPLAY_SIZE;
 use desk::arguments::asked;
 use desk::input::BLOCK;
 use desk::input::Input;

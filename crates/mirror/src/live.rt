@@ -15,10 +15,10 @@ use crate::flat::registers;
 use crate::half::Half;
 use crate::panel::Panel;
 use crate::panel::Times;
-use chip::address::DISPLAY_SIZE;
-use chip::address::PATTERN_SIZE;
 use chip::registers::Registers;
 use chip::sheet::Sheet;
+use chip::sizes::DISPLAY_SIZE;
+use chip::sizes::PATTERN_SIZE;
 
 pub struct Live {
     // The address: of which memory, and its number.

@@ -15,9 +15,9 @@ use crate::live::span;
 use crate::panel::Panel;
 use crate::panel::Times;
 use crate::record::Recorded;
-use chip::address::DISPLAY_SIZE;
-use chip::address::PATTERN_SIZE;
 use chip::registers::Registers;
+use chip::sizes::DISPLAY_SIZE;
+use chip::sizes::PATTERN_SIZE;
 use log::frame::Frame;
 use log::front::frame;
 

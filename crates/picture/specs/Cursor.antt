@@ -2,7 +2,8 @@
 use Prim.Native.Nat.{ℕ, _+_, _-_, _%_}
 use mathlib.Core.Bool.{_&&_, _||_}
 use Rattle.laws.specs.Pick.{pick}
-use Rattle.chip.specs.Address.{displaySize, addressNumber}
+use Rattle.chip.specs.Sizes.{positions}
+use Rattle.chip.specs.Address.{addressNumber}
 use Rattle.chip.specs.declared.address.Address.{Address}
 use Rattle.chip.specs.declared.registers.Registers.{Registers}
 use Rattle.picture.specs.declared.cursor.Cursor.{Cursor}
@@ -10,7 +11,7 @@ use Rattle.picture.specs.declared.cursor.Cursor.the-variants.{Off, At}
 
 -- (address - shift) mod 16, also while the address is in pattern memory, taken mod 16
 abbrev pub positionOf : Address → ℕ → ℕ
-positionOf address shift = (addressNumber address + (displaySize - shift % displaySize)) % displaySize
+positionOf address shift = (addressNumber address + (positions - shift % positions)) % positions
 
 -- D = 1, and C = 1 or B = 1: at its position; otherwise none is shown
 abbrev pub cursorOf : Registers → Cursor

@@ -1,5 +1,5 @@
 -- The frame and where a dot lands (document 01, "The picture").
-use Prim.Native.Nat.{ℕ, _*_, _<_}
+use Prim.Native.Nat.{ℕ, _*_, _/_, _<_}
 use mathlib.Core.Path.{_≡_}
 use mathlib.Core.Bool.{Bool, false, not}
 use mathlib.Core.List.{List}
@@ -8,20 +8,17 @@ use lib.ListN.{length}
 use Rattle.laws.specs.Pick.{pick}
 use Rattle.dots.specs.Landing.{Landing, dot}
 use Rattle.dots.specs.ByRows.{byRows}
-use Rattle.chip.specs.Address.{displaySize}
-use Rattle.picture.specs.Pattern.{tall}
+use Rattle.chip.specs.Sizes.{lines, positions}
+use Rattle.picture.specs.Pattern.{tall, wide}
 use Rattle.picture.specs.declared.frame.Place.{Place}
 
--- one line of sixteen positions
-abbrev pub lines : ℕ
-lines = 1
-
-abbrev pub across : ℕ
-across = displaySize
+-- 80 dots of a row are 10 bytes
+abbrev pub bytesAcross : ℕ
+bytesAcross = positions * wide / 8
 
 -- 8 rows of 80 dots: dot (r, x) is bit 7 - (x mod 8) of byte 10 r + (x div 8)
 abbrev pub glass : Landing
-glass = byRows (lines * tall) 10
+glass = byRows (lines * tall) bytesAcross
 
 -- dot (r, x) of a frame is lit: its bit is 1. None is outside, nor in a frame of another size
 abbrev pub litAt : List ℕ → ℕ → ℕ → Bool

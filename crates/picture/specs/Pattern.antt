@@ -5,6 +5,7 @@ use lib.Dec.{ltb}
 use lib.ListN.{getD}
 use Rattle.laws.specs.Pick.{pick}
 use Rattle.dots.specs.Table.{table}
+use Rattle.chip.specs.Sizes.{rowEnd}
 use Rattle.chip.specs.Address.{pattern, readPattern}
 
 -- eight rows, five dots wide
@@ -32,7 +33,7 @@ patternRow memory n r = readPattern (pattern (tall * (n % patterns) + r)) memory
 
 -- font byte 8 (code - 16) + r, low five bits
 abbrev pub glyphRow : List ℕ → ℕ → ℕ → ℕ
-glyphRow font code r = getD font (tall * (code - fontStart) + r) 0 % 32
+glyphRow font code r = getD font (tall * (code - fontStart) + r) 0 % rowEnd
 
 -- the rows as one thing
 abbrev pub patternOf : List ℕ → ℕ → List ℕ

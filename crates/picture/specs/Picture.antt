@@ -6,18 +6,19 @@ use lib.Dec.{eqb}
 use lib.ListN.{getD}
 use Rattle.dots.specs.Bit.{bit}
 use Rattle.dots.specs.Table.{table}
-use Rattle.chip.specs.Address.{displaySize, display, readDisplay}
+use Rattle.chip.specs.Sizes.{positions}
+use Rattle.chip.specs.Address.{display, readDisplay}
 use Rattle.chip.specs.declared.sheet.Sheet.{Sheet}
 use Rattle.picture.specs.Pattern.{wide, shapeOf}
 use Rattle.picture.specs.Cursor.{positionOf}
 
 -- screen position p shows display address (p + shift) mod 16
 abbrev pub codeAt : Sheet → ℕ → ℕ
-codeAt s p = readDisplay (display ((p + s .registers .shift) % displaySize)) (s .display)
+codeAt s p = readDisplay (display ((p + s .registers .shift) % positions)) (s .display)
 
 -- the codes of the sixteen positions, from the left
 abbrev pub codesOf : Sheet → List ℕ
-codesOf s = table (codeAt s) displaySize
+codesOf s = table (codeAt s) positions
 
 -- the pattern that position p shows
 abbrev pub shapeAt : Sheet → List ℕ → ℕ → List ℕ

@@ -2,8 +2,8 @@
 ghost use mathlib.Core.Path.{_≡_};
 ghost use Rattle.picture.specs.Cursor.{cursorOf, positionOf};
 use chip::address::Address;
-use chip::address::DISPLAY_SIZE;
 use chip::registers::Registers;
+use chip::sizes::POSITIONS;
 
 pub enum Cursor {
     // No cursor is shown.
@@ -16,8 +16,8 @@ pub enum Cursor {
 pub fn position(address: Address, shift: u8) -> usize
     ensures { λ r. ⌜ r ≡ positionOf address shift ⌝ }
 {
-    let shift = shift as usize % DISPLAY_SIZE;
-    (address.number() as usize + (DISPLAY_SIZE - shift)) % DISPLAY_SIZE
+    let shift = shift as usize % POSITIONS;
+    (address.number() as usize + (POSITIONS - shift)) % POSITIONS
 }
 
 // The cursor that the registers show, as a line or as a blink.

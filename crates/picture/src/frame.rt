@@ -4,14 +4,18 @@ ghost use Prim.Native.Nat.{_<_};
 ghost use lib.ListN.{length, replicate};
 ghost use Rattle.dots.specs.Landing.{dot, put};
 ghost use Rattle.picture.specs.Frame.{Lands, glass, litAt};
+use crate::pattern::TALL;
+use crate::pattern::WIDE;
+use chip::sizes::LINES;
+use chip::sizes::POSITIONS;
 
-pub const ROWS: usize = 8;
+pub const ROWS: usize = LINES * TALL;
 
-pub const COLUMNS: usize = 80;
+pub const COLUMNS: usize = POSITIONS * WIDE;
 
-const ROW_BYTES: usize = 10;
+pub const ROW_BYTES: usize = COLUMNS / 8;
 
-pub const FRAME_SIZE: usize = 80;
+pub const FRAME_SIZE: usize = ROWS * ROW_BYTES;
 
 pub struct Place {
     pub byte: usize,

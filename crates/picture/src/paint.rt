@@ -2,8 +2,9 @@
 ghost use mathlib.Core.Path.{_≡_};
 ghost use Prim.Native.Nat.{_+_, _≤_, _<_};
 ghost use lib.ListN.{length};
+ghost use Rattle.chip.specs.Sizes.{positions};
 ghost use Rattle.picture.specs.Pattern.{tall, wide, fontSize, patternsOf};
-ghost use Rattle.picture.specs.Frame.{across, glass};
+ghost use Rattle.picture.specs.Frame.{glass};
 ghost use Rattle.dots.specs.Table.{sum};
 ghost use Rattle.picture.specs.engine.Shown.{PutsCell, PutsLine, PutsRow, rowDot, shapeFrom, shownOf};
 ghost use Rattle.picture.specs.Paint.{Paints, paintRefusal};
@@ -13,14 +14,15 @@ use crate::frame::clear;
 use crate::frame::put_dot;
 use crate::pattern::FONT_SIZE;
 use crate::pattern::FONT_START;
+use crate::pattern::FULL;
 use crate::pattern::PATTERNS;
 use crate::pattern::TALL;
 use crate::pattern::WIDE;
 use crate::pattern::glyph;
 use crate::pattern::patterns;
 use crate::screen::code_at;
-use chip::address::DISPLAY_SIZE;
 use chip::sheet::Sheet;
+use chip::sizes::POSITIONS;
 use mirror::panel::Panel;
 
 const CURSOR_ROW: usize = 7;
@@ -68,7 +70,7 @@ fn shown(
     dark: bool,
     at: usize,
 ) -> [u8; TALL]
-    requires { ⌜ (own ≡ patternsOf (sheet .pattern)) × (length (now font) ≡ fontSize) × (at < across) ⌝ }
+    requires { ⌜ (own ≡ patternsOf (sheet .pattern)) × (length (now font) ≡ fontSize) × (at < positions) ⌝ }
     ensures { λ r. ⌜ r ≡ shownOf sheet (now (font .entry)) dark at ⌝ }
 {
     let r = sheet.registers;
@@ -81,10 +83,10 @@ fn shown(
         return rows;
     }
     if r.blink & dark {
-        return [31; TALL];
+        return [FULL; TALL];
     }
     if r.cursor {
-        rows[CURSOR_ROW] = 31;
+        rows[CURSOR_ROW] = FULL;
     }
     rows
 }
@@ -93,7 +95,7 @@ fn shown(
 fn lit_in(dots: u8) -> usize
     ensures { λ n. ⌜ n ≡ sum (rowDot dots) wide ⌝ }
 {
-    u8::count_ones(dots & 31) as usize
+    u8::count_ones(dots & FULL) as usize
 }
 
 // Paints a row of a cell, whose leftmost dot is (row, left).
@@ -128,7 +130,7 @@ fn put_line(frame: &mut [u8], sheet: Sheet, font: &[u8], dark: bool) -> usize
     let memory = sheet.pattern;
     let own = patterns(memory);
     let mut total = 0;
-    for p in 0..DISPLAY_SIZE {
+    for p in 0..POSITIONS {
         let rows = shown(sheet, own, font, dark, p);
         total += put_cell(frame, 0, p * WIDE, rows);
     }

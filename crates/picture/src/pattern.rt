@@ -3,8 +3,9 @@ ghost use mathlib.Core.Path.{_≡_};
 ghost use Prim.Native.Nat.{_≤_};
 ghost use lib.ListN.{length};
 ghost use Rattle.picture.specs.Pattern.{fontSize, fontStart, patternOf, patternsOf, glyphOf};
-use chip::address::PATTERN_SIZE;
 use chip::address::PatternAddress;
+use chip::sizes::PATTERN_SIZE;
+use chip::sizes::ROW_END;
 
 // How many rows and columns a pattern has, and how many patterns pattern memory holds.
 pub const TALL: usize = 8;
@@ -12,6 +13,9 @@ pub const TALL: usize = 8;
 pub const WIDE: usize = 5;
 
 pub const PATTERNS: usize = 4;
+
+// A row whose five dots are all lit.
+pub(crate) const FULL: u8 = ROW_END - 1;
 
 // The codes below this one show pattern memory.
 pub const FONT_START: u8 = 16;
@@ -49,7 +53,7 @@ pub(crate) fn glyph(font: &[u8], code: u8) -> [u8; TALL]
     let first = TALL * (code as usize - FONT_START as usize);
     let mut rows = [0; TALL];
     for r in 0..TALL {
-        rows[r] = font[first + r] & 31;
+        rows[r] = font[first + r] & FULL;
     }
     rows
 }

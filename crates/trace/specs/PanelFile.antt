@@ -7,7 +7,8 @@ use lib.ListN.{getD}
 use Rattle.laws.specs.Pick.{pick}
 use Rattle.dots.specs.Table.{table}
 use Rattle.log.specs.Frame.{num16, num64}
-use Rattle.chip.specs.Address.{displaySize, patternSize, display, pattern}
+use Rattle.chip.specs.Sizes.{displaySize, patternSize}
+use Rattle.chip.specs.Address.{display, pattern}
 use Rattle.chip.specs.declared.address.Address.{Address}
 use Rattle.chip.specs.declared.address.Address.the-variants.{Display, Pattern}
 use Rattle.chip.specs.declared.registers.Registers.{Registers}

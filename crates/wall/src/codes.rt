@@ -1,7 +1,7 @@
 // The lines beneath the drawing: the codes that the screen shows, as text and as numbers, and the cursor.
 ghost use mathlib.Core.Path.{_≡_};
 ghost use Rattle.wall.specs.Text.{characterOf, textOf};
-use chip::address::DISPLAY_SIZE;
+use chip::sizes::POSITIONS;
 use desk::print::say;
 use desk::print::show;
 use desk::print::show_bytes;
@@ -21,23 +21,23 @@ fn character(code: u8) -> u8
     code
 }
 
-fn characters(codes: [u8; DISPLAY_SIZE]) -> [u8; DISPLAY_SIZE]
+fn characters(codes: [u8; POSITIONS]) -> [u8; POSITIONS]
     ensures { λ r. ⌜ r ≡ textOf codes ⌝ }
 {
-    let mut characters = [0; DISPLAY_SIZE];
-    for at in 0..DISPLAY_SIZE {
+    let mut characters = [0; POSITIONS];
+    for at in 0..POSITIONS {
         characters[at] = character(codes[at]);
     }
     characters
 }
 
-pub(crate) fn show_text(codes: [u8; DISPLAY_SIZE]) {
+pub(crate) fn show_text(codes: [u8; POSITIONS]) {
     show(b"text |");
     show(&characters(codes));
     show(b"|\n");
 }
 
-pub(crate) fn show_codes(codes: [u8; DISPLAY_SIZE]) {
+pub(crate) fn show_codes(codes: [u8; POSITIONS]) {
     show(b"codes");
     show_bytes(b" ", &codes);
     show(b"\n");

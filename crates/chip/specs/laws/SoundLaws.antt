@@ -8,12 +8,13 @@ use native.Mathlib.Numerals.{add-one}
 use native.Mathlib.Nat.{mod-lt}
 use lib.ListN.{length, getD, set, drop, drop-of-length-le}
 use lib.Seq.{drop-cons}
-use lib.Dec.{ltb}
-use borrow.Author.Tests.{ltb-false, not-false, lt-ltb, le-ltb}
+use lib.Dec.{ltb, leb}
+use borrow.Author.Tests.{leb-false, not-false, lt-ltb, lt-leb}
 use Rattle.laws.specs.Pick.{pick}
 use Rattle.laws.specs.laws.PickLaws.{past}
 use Rattle.laws.specs.laws.RingLaws.{moved-below}
-use Rattle.chip.specs.Address.{displaySize, patternSize, display, pattern, movedAddress}
+use Rattle.chip.specs.Sizes.{positions, displaySize, patternSize, rowEnd, functionEnd}
+use Rattle.chip.specs.Address.{display, pattern, movedAddress}
 use Rattle.chip.specs.Sheet.{freshSheet}
 use Rattle.chip.specs.Instruction.{isSet, unset, decoded}
 use Rattle.chip.specs.Step.{homed, cleared, entered, screenSet, stepped, shifted, functionSet, addressSet, acted, obeyed, storedAt, followed, shiftsAt, written, passed}
@@ -25,7 +26,7 @@ use Rattle.chip.specs.declared.instruction.Instruction.the-variants.{Not
 use Rattle.chip.specs.declared.sheet.Sheet.{Sheet}
 
 -- what is left of the entries, from an entry on
-pub fits-here : (s : List ℕ) (i : ℕ) → i < length s → patternFits (drop i s) ≡ pick (ltb 31 (getD s i 0)) false (patternFits (drop (i + 1) s))
+pub fits-here : (s : List ℕ) (i : ℕ) → i < length s → patternFits (drop i s) ≡ pick (leb rowEnd (getD s i 0)) false (patternFits (drop (i + 1) s))
 unfolding patternFits
 fits-here s i h = rw (add-one, drop-cons s i 0)
 
@@ -37,29 +38,29 @@ fits-end s i h = rw (drop-of-length-le s h)
 -- soundness, part by part
 pub record Sound (s : Sheet) : Type 0 where
   pub address : addressFits (s .registers .address) ≡ true
-  pub shift : s .registers .shift < displaySize
-  pub function : s .registers .function < 16
+  pub shift : s .registers .shift < positions
+  pub function : s .registers .function < functionEnd
   pub entries : patternFits (s .pattern) ≡ true
 
 pub parts : (s : Sheet) → soundSheet s ≡ true → Sound s
 parts s e =
     let a = past (not (addressFits (s .registers .address))) e in
-    let b = past (ltb 15 (s .registers .shift)) (a .later) in
-    let c = past (ltb 15 (s .registers .function)) (b .later) in
-    let h = ltb-false 15 (s .registers .shift) (b .here) in
-    let k = ltb-false 15 (s .registers .function) (c .here) in
+    let b = past (leb positions (s .registers .shift)) (a .later) in
+    let c = past (leb functionEnd (s .registers .function)) (b .later) in
+    let h = leb-false positions (s .registers .shift) (b .here) in
+    let k = leb-false functionEnd (s .registers .function) (c .here) in
     record {
       address = not-false (addressFits (s .registers .address)) (a .here);
-      shift = omega arith;
-      function = omega arith;
+      shift = h;
+      function = k;
       entries = c .later;
     }
 
 pub whole : (s : Sheet) → Sound s → soundSheet s ≡ true
 whole s h =
-    ap (λ b. pick (not b) false (pick (ltb 15 (s .registers .shift)) false (pick (ltb 15 (s .registers .function)) false (patternFits (s .pattern))))) (h .address) ∙
-    ap (λ b. pick b false (pick (ltb 15 (s .registers .function)) false (patternFits (s .pattern)))) (le-ltb 15 (s .registers .shift) (omega (arith, h .shift))) ∙
-    ap (λ b. pick b false (patternFits (s .pattern))) (le-ltb 15 (s .registers .function) (omega (arith, h .function))) ∙
+    ap (λ b. pick (not b) false (pick (leb positions (s .registers .shift)) false (pick (leb functionEnd (s .registers .function)) false (patternFits (s .pattern))))) (h .address) ∙
+    ap (λ b. pick b false (pick (leb functionEnd (s .registers .function)) false (patternFits (s .pattern)))) (lt-leb positions (s .registers .shift) (h .shift)) ∙
+    ap (λ b. pick b false (patternFits (s .pattern))) (lt-leb functionEnd (s .registers .function) (h .function)) ∙
     h .entries
 
 -- an address that moves stays in its memory
@@ -68,12 +69,12 @@ moved-fits up (Display d) = lt-ltb _ displaySize (moved-below displaySize up (d 
 moved-fits up (Pattern p) = lt-ltb _ patternSize (moved-below patternSize up (p .0) (omega arith))
 
 -- five bits stored among entries of five bits
-set-fits : (l : List ℕ) (i x : ℕ) → x < 32 → patternFits l ≡ true → patternFits (set l i x) ≡ true
+set-fits : (l : List ℕ) (i x : ℕ) → x < rowEnd → patternFits l ≡ true → patternFits (set l i x) ≡ true
 unfolding patternFits
 set-fits [] i x h e = refl
-set-fits (y ∷ l) zero x h e = ap (λ b. pick b false (patternFits l)) (le-ltb 31 x (omega arith)) ∙ past (ltb 31 y) e .later
+set-fits (y ∷ l) zero x h e = ap (λ b. pick b false (patternFits l)) (lt-leb rowEnd x h) ∙ past (leb rowEnd y) e .later
 set-fits (y ∷ l) (suc i) x h e =
-    let p = past (ltb 31 y) e in
+    let p = past (leb rowEnd y) e in
     ap (λ b. pick b false (patternFits (set l i x))) (p .here) ∙ set-fits l i x h (p .later)
 
 pub fresh-sound : Sound freshSheet
@@ -97,9 +98,9 @@ stepped-sound up s h = record { address = moved-fits up (s .registers .address);
 
 pub shifted-sound : (left : Bool) (s : Sheet) → Sound s → Sound (shifted left s)
 shifted-sound left s h =
-    record { address = h .address; shift = moved-below displaySize left (s .registers .shift) (omega arith); function = h .function; entries = h .entries }
+    record { address = h .address; shift = moved-below positions left (s .registers .shift) (omega arith); function = h .function; entries = h .entries }
 
-pub functionSet-sound : (eight : Bool) (bits : ℕ) (s : Sheet) → bits < 16 → Sound s → Sound (functionSet eight bits s)
+pub functionSet-sound : (eight : Bool) (bits : ℕ) (s : Sheet) → bits < functionEnd → Sound s → Sound (functionSet eight bits s)
 functionSet-sound eight bits s b h = record { address = h .address; shift = h .shift; function = b; entries = h .entries }
 
 pub addressSet-sound : (a : Address) (s : Sheet) → addressFits a ≡ true → Sound s → Sound (addressSet a s)
@@ -118,10 +119,10 @@ decoded-fits code =
     (by (ltb code 0x10) (plain (Screen (isSet 4 code) (isSet 2 code) (isSet 1 code)) (lit-sound (isSet 4 code) (isSet 2 code) (isSet 1 code)))
     (by (ltb code 0x18) (plain (Move (isSet 4 code)) (stepped-sound (isSet 4 code)))
     (by (ltb code 0x20) (plain (Shift (unset 4 code)) (shifted-sound (unset 4 code)))
-    (by (ltb code 0x40) (plain (Function (isSet 16 code) (code % 16)) (λ s h. functionSet-sound (isSet 16 code) (code % 16) s (mod-lt code (omega arith)) h))
+    (by (ltb code 0x40) (plain (Function (isSet 0x10 code) (code % functionEnd)) (λ s h. functionSet-sound (isSet 0x10 code) (code % functionEnd) s (mod-lt code (omega arith)) h))
     (by (ltb code 0x80)
-    (plain (Set (Pattern (pattern (code % 32)))) (λ s h. addressSet-sound (Pattern (pattern (code % 32))) s (lt-ltb _ patternSize (mod-lt code (omega arith))) h))
-    (plain (Set (Display (display (code % 16)))) (λ s h. addressSet-sound (Display (display (code % 16))) s (lt-ltb _ displaySize (mod-lt code (omega arith))) h))))))))))
+    (plain (Set (Pattern (pattern (code % patternSize)))) (λ s h. addressSet-sound (Pattern (pattern (code % patternSize))) s (lt-ltb _ patternSize (mod-lt code (omega arith))) h))
+    (plain (Set (Display (display (code % displaySize)))) (λ s h. addressSet-sound (Display (display (code % displaySize))) s (lt-ltb _ displaySize (mod-lt code (omega arith))) h))))))))))
   where
     by : (b : Bool) {x y : Instruction} → Fits x → Fits y → Fits (pick b x y)
     by true p q = p
@@ -141,7 +142,7 @@ stored-sound (Pattern p) byte s h =
       address = h .address;
       shift = h .shift;
       function = h .function;
-      entries = set-fits (s .pattern) (p .0 % patternSize) (byte % 32) (mod-lt byte (omega arith)) (h .entries);
+      entries = set-fits (s .pattern) (p .0 % patternSize) (byte % rowEnd) (mod-lt byte (omega arith)) (h .entries);
     }
 
 followed-sound : (shifts : Bool) (s : Sheet) → Sound s → Sound (followed shifts s)

@@ -8,7 +8,8 @@ use native.Mathlib.Nat.{mod-lt, mod-mod}
 use lib.ListN.{length, getD, set}
 use lib.Seq.{getD-set-same, getD-set-other}
 use Rattle.laws.specs.Pick.{pick}
-use Rattle.chip.specs.Address.{displaySize, patternSize, readDisplay, writtenDisplay, readPattern, writtenPattern, addressNumber}
+use Rattle.chip.specs.Sizes.{displaySize, patternSize, rowEnd}
+use Rattle.chip.specs.Address.{readDisplay, writtenDisplay, readPattern, writtenPattern, addressNumber}
 use Rattle.chip.specs.Step.{homed, cleared, entered, screenSet, stepped, shifted, functionSet, addressSet, storedAt, followed, writtenAt, written, passed}
 use Rattle.chip.specs.declared.address.DisplayAddress.{DisplayAddress}
 use Rattle.chip.specs.declared.address.PatternAddress.{PatternAddress}
@@ -111,15 +112,15 @@ back n a v m z h = getD-set-same m (a % n) v 0 (omega (arith, mod-lt a z))
 pub display-back : (d : DisplayAddress) (byte : ℕ) (m : List ℕ) → displaySize ≤ length m → readDisplay d (writtenDisplay d byte m) ≡ byte
 display-back d byte m h = back displaySize (d .0) byte m (omega arith) h
 
-pub pattern-back : (p : PatternAddress) (byte : ℕ) (m : List ℕ) → patternSize ≤ length m → readPattern p (writtenPattern p byte m) ≡ byte % 32
-pattern-back p byte m h = ap (λ x. x % 32) (back patternSize (p .0) (byte % 32) m (omega arith) h) ∙ mod-mod byte 32
+pub pattern-back : (p : PatternAddress) (byte : ℕ) (m : List ℕ) → patternSize ≤ length m → readPattern p (writtenPattern p byte m) ≡ byte % rowEnd
+pattern-back p byte m h = ap (λ x. x % rowEnd) (back patternSize (p .0) (byte % rowEnd) m (omega arith) h) ∙ mod-mod byte rowEnd
 
 -- and every other place stays as it was
 pub display-others : (d e : DisplayAddress) (byte : ℕ) (m : List ℕ) → (e .0 % displaySize ≡ d .0 % displaySize → ⊥) → readDisplay e (writtenDisplay d byte m) ≡ readDisplay e m
 display-others d e byte m n = getD-set-other m (d .0 % displaySize) (e .0 % displaySize) byte 0 n
 
 pub pattern-others : (p q : PatternAddress) (byte : ℕ) (m : List ℕ) → (q .0 % patternSize ≡ p .0 % patternSize → ⊥) → readPattern q (writtenPattern p byte m) ≡ readPattern q m
-pattern-others p q byte m n = ap (λ x. x % 32) (getD-set-other m (p .0 % patternSize) (q .0 % patternSize) (byte % 32) 0 n)
+pattern-others p q byte m n = ap (λ x. x % rowEnd) (getD-set-other m (p .0 % patternSize) (q .0 % patternSize) (byte % rowEnd) 0 n)
 
 -- an address has seven bits at most
 pub number-small : (a : Address) → addressNumber a < 128

@@ -6,6 +6,7 @@ use native.Mathlib.Omega.{arith}
 use lib.Dec.{ltb}
 use borrow.Author.Tests.{ltb-false, le-ltb}
 use Rattle.laws.specs.Pick.{pick}
+use Rattle.chip.specs.Sizes.{displaySize, patternSize, functionEnd}
 use Rattle.chip.specs.Address.{display, pattern}
 use Rattle.chip.specs.Instruction.{isSet, unset, decoded}
 use Rattle.chip.specs.Step.{acted, obeyed, writtenAt, written}
@@ -37,12 +38,12 @@ low-keeps code e =
 
 high-code : (code : ℕ) → 0x20 ≤ code →
     decoded code ≡
-    pick (ltb code 0x40) (Function (isSet 16 code) (code % 16)) (pick (ltb code 0x80) (Set (Pattern (pattern (code % 32)))) (Set (Display (display (code % 16)))))
+    pick (ltb code 0x40) (Function (isSet 0x10 code) (code % functionEnd)) (pick (ltb code 0x80) (Set (Pattern (pattern (code % patternSize)))) (Set (Display (display (code % displaySize)))))
 high-code code h =
     rw (le-ltb code 0x01 (omega arith), le-ltb code 0x02 (omega arith), le-ltb code 0x04 (omega arith), le-ltb code 0x08 (omega arith), le-ltb code 0x10 (omega arith), le-ltb code 0x18 (omega arith), le-ltb code 0x20 h)
 
 pub obeyed-width : (code : ℕ) (s : Sheet) →
-    obeyed code s .registers .eight ≡ pick (ltb code 0x20) (s .registers .eight) (pick (ltb code 0x40) (isSet 16 code) (s .registers .eight))
+    obeyed code s .registers .eight ≡ pick (ltb code 0x20) (s .registers .eight) (pick (ltb code 0x40) (isSet 0x10 code) (s .registers .eight))
 obeyed-width code s = by (ltb code 0x20) refl where
   eight : Bool
   eight = s .registers .eight
@@ -50,12 +51,12 @@ obeyed-width code s = by (ltb code 0x20) refl where
   kept : {i : Instruction} → Keeps i → acted i s .registers .eight ≡ eight
   kept (keeps i k) = k s
 
-  high : (a b : Bool) → acted (pick a (Function (isSet 16 code) (code % 16)) (pick b (Set (Pattern (pattern (code % 32)))) (Set (Display (display (code % 16)))))) s .registers .eight ≡ pick a (isSet 16 code) eight
+  high : (a b : Bool) → acted (pick a (Function (isSet 0x10 code) (code % functionEnd)) (pick b (Set (Pattern (pattern (code % patternSize)))) (Set (Display (display (code % displaySize)))))) s .registers .eight ≡ pick a (isSet 0x10 code) eight
   high true b = refl
   high false true = refl
   high false false = refl
 
-  by : (b : Bool) → ltb code 0x20 ≡ b → obeyed code s .registers .eight ≡ pick b eight (pick (ltb code 0x40) (isSet 16 code) eight)
+  by : (b : Bool) → ltb code 0x20 ≡ b → obeyed code s .registers .eight ≡ pick b eight (pick (ltb code 0x40) (isSet 0x10 code) eight)
   by true e = kept (low-keeps code e)
   by false e = ap (λ i. acted i s .registers .eight) (high-code code (ltb-false code 0x20 e)) ∙ high (ltb code 0x40) (ltb code 0x80)
 

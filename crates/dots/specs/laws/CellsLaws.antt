@@ -7,7 +7,7 @@ use native.Mathlib.Nat.{zero-add, zero-mul, div-add-mod', not-suc-le-zero}
 use native.Mathlib.Decide.{ℕ-discrete, decLt}
 use native.Mathlib.Omega.{arith}
 use lib.ListN.{length, getD, replicate, length-replicate, getD-replicate, List·getD-eq-default}
-use Rattle.dots.specs.Parts.{place-in, part-of, place-of}
+use Rattle.dots.specs.laws.PartsLaws.{place-in, part-of, place-of}
 use Rattle.dots.specs.Bit.{bit, one}
 use Rattle.dots.specs.laws.BitLaws.{one-lt, bit-of-zero}
 use Rattle.dots.specs.Table.{inOrder, sum}

@@ -8,10 +8,11 @@ use Rattle.laws.specs.Pick.{pick}
 use Rattle.dots.specs.Bit.{bit}
 use Rattle.dots.specs.Table.{sum}
 use Rattle.dots.specs.engine.Cells.{Lights, strip, block, line, blockSum, lineSum}
+use Rattle.chip.specs.Sizes.{positions, rowEnd}
 use Rattle.chip.specs.declared.sheet.Sheet.{Sheet}
 use Rattle.picture.specs.Pattern.{tall, wide, patterns, fontStart, glyphOf}
 use Rattle.picture.specs.Cursor.{positionOf}
-use Rattle.picture.specs.Frame.{across, glass}
+use Rattle.picture.specs.Frame.{glass}
 use Rattle.picture.specs.Picture.{shapeAt, cursorRow}
 
 -- the pattern of a code, the panel's own four being at hand
@@ -20,7 +21,7 @@ shapeFrom own font code = pick (ltb code fontStart) (getD own (code % patterns) 
 
 -- five dots that are all lit
 abbrev pub full : ℕ
-full = 31
+full = rowEnd - 1
 
 unfoldable pub shownOf : Sheet → List ℕ → Bool → ℕ → List ℕ
 shownOf s font dark p =
@@ -49,4 +50,4 @@ abbrev pub PutsCell : List ℕ → ℕ → ℕ → List ℕ → List ℕ → ℕ
 PutsCell rows r x = Lights (block glass tall wide (cellDot rows) r x) (blockSum tall wide (cellDot rows))
 
 abbrev pub PutsLine : Sheet → List ℕ → Bool → List ℕ → List ℕ → ℕ → Type 0
-PutsLine s font dark = Lights (line glass tall wide across (lineDot s font dark) 0) (lineSum tall wide across (lineDot s font dark))
+PutsLine s font dark = Lights (line glass tall wide positions (lineDot s font dark) 0) (lineSum tall wide positions (lineDot s font dark))

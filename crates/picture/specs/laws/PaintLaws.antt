@@ -18,7 +18,8 @@ use Rattle.chip.specs.declared.sheet.Sheet.{Sheet}
 use Rattle.mirror.specs.Panel.{soundPanel}
 use Rattle.mirror.specs.declared.panel.Panel.{Panel}
 use Rattle.picture.specs.Pattern.{tall, wide, fontSize}
-use Rattle.picture.specs.Frame.{lines, across, glass, litAt}
+use Rattle.picture.specs.Frame.{glass, litAt}
+use Rattle.chip.specs.Sizes.{lines, positions}
 use Rattle.picture.specs.Picture.{lit}
 use Rattle.picture.specs.engine.Shown.{PutsLine, lineDot}
 use Rattle.picture.specs.laws.ShownLaws.{shown-lit}
@@ -27,7 +28,7 @@ use Rattle.picture.specs.declared.paint.Painted.{Painted}
 use Rattle.picture.specs.declared.paint.Painted.the-variants.{Lit, Size, Unsound}
 
 module _ (s : Sheet) (font : List ℕ) (dark : Bool) where
-  dots : (l p i c : ℕ) → l < lines → p < across → i < tall → c < wide
+  dots : (l p i c : ℕ) → l < lines → p < positions → i < tall → c < wide
       → lineDot s font dark p i c ≡ one (lit s font dark (l * tall + i) (p * wide + c))
   dots l p i c hl hp hi hc =
       let first : i ≡ l * tall + i = omega arith in
@@ -35,14 +36,14 @@ module _ (s : Sheet) (font : List ℕ) (dark : Bool) where
 
   pub line-frame : (f after : List ℕ) (n : ℕ) → f ≡ replicate (glass .size) 0 → PutsLine s font dark f after n → after ≡ dotsFrame glass (lit s font dark)
   line-frame f after n e P =
-      P .frame ∙ ap (line glass tall wide across (lineDot s font dark) 0) e
-      ∙ sym (one-line glass tall wide across (λ l. lineDot s font dark) (replicate (glass .size) 0))
-      ∙ page-frame glass (lit s font dark) tall wide across lines refl refl (λ l. lineDot s font dark) dots
+      P .frame ∙ ap (line glass tall wide positions (lineDot s font dark) 0) e
+      ∙ sym (one-line glass tall wide positions (λ l. lineDot s font dark) (replicate (glass .size) 0))
+      ∙ page-frame glass (lit s font dark) tall wide positions lines refl refl (λ l. lineDot s font dark) dots
 
   pub line-count : (f after : List ℕ) (n : ℕ) → PutsLine s font dark f after n → n ≡ countOf glass (lit s font dark)
   line-count f after n P =
-      P .tally ∙ sym (one-line-sum glass tall wide across (λ l. lineDot s font dark))
-      ∙ page-count glass (lit s font dark) tall wide across lines refl refl (λ l. lineDot s font dark) dots
+      P .tally ∙ sym (one-line-sum glass tall wide positions (λ l. lineDot s font dark))
+      ∙ page-count glass (lit s font dark) tall wide positions lines refl refl (λ l. lineDot s font dark) dots
 
 module _ (panel : Panel) (font : List ℕ) (dark : Bool) (frame : List ℕ) where
   -- the answer on paper: 10 for a panel that is not sound, then 9 for a size, and then 0 lit dots; otherwise no number, and those that are lit

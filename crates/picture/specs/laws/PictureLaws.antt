@@ -8,7 +8,9 @@ use lib.ListN.{getD}
 use Rattle.laws.specs.Pick.{pick}
 use Rattle.dots.specs.Bit.{bit}
 use Rattle.dots.specs.laws.TableLaws.{table-cong}
-use Rattle.chip.specs.Sheet.{withFunction, withPattern}
+use Rattle.chip.specs.Sizes.{rowEnd}
+use Rattle.chip.specs.Sheet.{withPattern}
+use Rattle.chip.specs.Step.{functionSet}
 use Rattle.chip.specs.declared.sheet.Sheet.{Sheet}
 use Rattle.picture.specs.Pattern.{tall, wide, patterns, fontStart, patternRow, glyphRow, patternOf, glyphOf, shapeOf}
 use Rattle.picture.specs.Picture.{codeAt, shapeAt, patternDot, atCursor, cursorRow, cursorDot, blinkDot, lit}
@@ -49,7 +51,7 @@ module _ (s : Sheet) (font : List ℕ) (dark : Bool) (r x : ℕ) where
       (ap (λ (b : Bool). s .registers .on && b) (or-false (patternDot s font r x || false) ∙ or-false (patternDot s font r x)))
 
   -- the low four Function Set bits light nothing
-  pub function-unseen : (n : ℕ) → lit (withFunction (s .registers .eight) n s) font dark r x ≡ lit s font dark r x
+  pub function-unseen : (n : ℕ) → lit (functionSet (s .registers .eight) n s) font dark r x ≡ lit s font dark r x
   unfolding lit
   function-unseen n = refl
 
@@ -61,7 +63,7 @@ module _ (s : Sheet) (font : List ℕ) (dark : Bool) (r x : ℕ) where
 
 -- equal in the low five bits
 abbrev pub LowFive : List ℕ → List ℕ → Type 0
-LowFive a b = (i : ℕ) → getD a i 0 % 32 ≡ getD b i 0 % 32
+LowFive a b = (i : ℕ) → getD a i 0 % rowEnd ≡ getD b i 0 % rowEnd
 
 -- the upper bits of font and pattern memory never show
 pub upper-bits : (s : Sheet) (font : List ℕ) (dark : Bool) (r x : ℕ) (m f : List ℕ) → LowFive (s .pattern) m → LowFive font f

@@ -15,7 +15,7 @@ use Rattle.dots.specs.Bit.{bit, one}
 use Rattle.dots.specs.laws.BitLaws.{bit-lt, one-bit, bit-of-zero}
 use Rattle.dots.specs.Table.{sum, table}
 use Rattle.dots.specs.laws.TableLaws.{getD-table, length-table, sum-le}
-use Rattle.dots.specs.Parts.{part-back, place-back}
+use Rattle.dots.specs.laws.PartsLaws.{part-back, place-back}
 use Rattle.dots.specs.engine.Cells.{blockSum}
 use Rattle.chip.specs.Address.{pattern, readPattern}
 use Rattle.chip.specs.declared.sheet.Sheet.{Sheet}

@@ -1,7 +1,20 @@
+use borrow.Author.Needs.{needs}
 use native.Mathlib.Omega.{arith}
 use borrow.Author.Tests.{lt-ltb, le-ltb}
 use Rattle.chip.proofs.instruction.decode.Statement.{statement}
 use Rattle.chip.proofs.instruction.decode.Tie as tie
+
+cast-t14 : tie.Need-cast-t14
+cast-t14 c = search needs
+
+rem-t15 : tie.Need-rem-t15
+rem-t15 c = search needs
+
+cast-t18 : tie.Need-cast-t18
+cast-t18 c = search needs
+
+rem-t19 : tie.Need-rem-t19
+rem-t19 c = search needs
 
 returns : tie.Need-returns
 returns c = let x = c .before .args .code in simp (lt-ltb x 1 (omega arith))
@@ -37,6 +50,10 @@ pub decode-spec : {M : Type 1} → statement M
 decode-spec =
     tie.close
     (tie.spec
+    cast-t14
+    rem-t15
+    cast-t18
+    rem-t19
     returns
     returns-2
     returns-3

@@ -10,7 +10,8 @@ use Rattle.dots.specs.engine.Cells.{block, blockSum}
 use Rattle.dots.specs.laws.TallyLaws.{Through, through-start, through-next, through-end, through-long, through-few, length-block}
 use Rattle.chip.specs.declared.sheet.Sheet.{Sheet}
 use Rattle.picture.specs.Pattern.{tall, wide, patternsOf}
-use Rattle.picture.specs.Frame.{across, glass}
+use Rattle.picture.specs.Frame.{glass}
+use Rattle.chip.specs.Sizes.{positions}
 use Rattle.picture.specs.engine.Shown.{PutsCell, shownOf, lineDot}
 use Rattle.picture.specs.laws.ShownLaws.{few-cell}
 use Rattle.picture.proofs.paint.put_line.Statement.{statement}
@@ -23,16 +24,16 @@ abbrev value : Sheet → List ℕ → Bool → ℕ → ℕ
 value sheet font dark p = blockSum tall wide (lineDot sheet font dark p)
 
 -- one more cell
-more : (s : Sheet) (font : List ℕ) (dark : Bool) (f₀ f f' rows : List ℕ) (lit m p : ℕ) → Through (step s font dark) (value s font dark) across f₀ f lit p
-    → p < across → rows ≡ shownOf s font dark p → PutsCell rows 0 (p * wide) f f' m
-    → Through (step s font dark) (value s font dark) across f₀ f' (lit + m) (p + 1)
+more : (s : Sheet) (font : List ℕ) (dark : Bool) (f₀ f f' rows : List ℕ) (lit m p : ℕ) → Through (step s font dark) (value s font dark) positions f₀ f lit p
+    → p < positions → rows ≡ shownOf s font dark p → PutsCell rows 0 (p * wide) f f' m
+    → Through (step s font dark) (value s font dark) positions f₀ f' (lit + m) (p + 1)
 more s font dark f₀ f f' rows lit m p T h e S = through-next _ _ _ _ _ _ _ _ _ T h (rw e at S)
 
 abbrev Inv-loop : tie.InvT-loop
-Inv-loop frame₀ sheet font dark own total₀ p₀ frame total p = Through (step sheet font dark) (value sheet font dark) across frame₀ frame total p × (own ≡ patternsOf (sheet .pattern))
+Inv-loop frame₀ sheet font dark own total₀ p₀ frame total p = Through (step sheet font dark) (value sheet font dark) positions frame₀ frame total p × (own ≡ patternsOf (sheet .pattern))
 
 abbrev μ-loop : tie.MeasureT-loop
-μ-loop frame₀ sheet font dark own total₀ p₀ frame total p = across - p
+μ-loop frame₀ sheet font dark own total₀ p₀ frame total p = positions - p
 
 patterns-requires : tie.Need-patterns-requires Inv-loop μ-loop
 patterns-requires c κs = search needs

@@ -3,11 +3,12 @@ use Prim.Native.Nat.{ℕ, _+_, _%_}
 use mathlib.Core.Path.{_≡_, ap, _∙_}
 use native.Mathlib.Omega.{arith}
 use borrow.Author.Needs.{needs}
-use Rattle.chip.specs.Address.{displaySize, display, readDisplay}
+use Rattle.chip.specs.Sizes.{positions}
+use Rattle.chip.specs.Address.{display, readDisplay}
 use Rattle.picture.proofs.screen.code_at.Statement.{statement}
 use Rattle.picture.proofs.screen.code_at.Tie as tie
 
-round : (at shift : ℕ) → (at % displaySize + shift) % displaySize ≡ (at + shift) % displaySize
+round : (at shift : ℕ) → (at % positions + shift) % positions ≡ (at + shift) % positions
 round at shift = omega arith
 
 cast-place : tie.Need-cast-place

@@ -4,16 +4,16 @@ use Prim.Native.Nat.{_-_}
 use mathlib.Core.Path.{refl}
 use native.Mathlib.Omega.{arith}
 use Rattle.dots.specs.laws.TableLaws.{Filled, fill-start, fill-step, fill-end}
-use Rattle.chip.specs.Address.{displaySize}
+use Rattle.chip.specs.Sizes.{positions}
 use Rattle.picture.specs.Picture.{codeAt}
 use Rattle.picture.proofs.screen.codes.Statement.{statement}
 use Rattle.picture.proofs.screen.codes.Tie as tie
 
 abbrev Inv-loop : tie.InvT-loop
-Inv-loop sheet codes₀ at₀ codes at = Filled (codeAt sheet) displaySize codes at
+Inv-loop sheet codes₀ at₀ codes at = Filled (codeAt sheet) positions codes at
 
 abbrev μ-loop : tie.MeasureT-loop
-μ-loop sheet codes₀ at₀ codes at = displaySize - at
+μ-loop sheet codes₀ at₀ codes at = positions - at
 
 loop-holds : tie.Need-loop-holds Inv-loop μ-loop
 loop-holds c = fill-start _ _ _ refl

@@ -3,7 +3,7 @@ use Prim.Native.Nat.{_+_, _-_}
 use mathlib.Core.Path.{refl}
 use native.Mathlib.Omega.{arith}
 use Rattle.dots.specs.laws.TableLaws.{Filled, fill-start, fill-step, fill-end}
-use Rattle.chip.specs.Address.{displaySize, patternSize}
+use Rattle.chip.specs.Sizes.{displaySize, patternSize}
 use Rattle.trace.specs.PanelFile.{byteIn}
 use borrow.Author.Needs.{needs}
 use Rattle.trace.proofs.panel_file.pattern_of.Statement.{statement}

@@ -4,17 +4,17 @@ use mathlib.Core.Path.{refl}
 use native.Mathlib.Omega.{arith}
 use lib.ListN.{getD}
 use Rattle.dots.specs.laws.TableLaws.{Filled, fill-start, fill-step, fill-end}
-use Rattle.chip.specs.Address.{displaySize}
+use Rattle.chip.specs.Sizes.{positions}
 use Rattle.wall.specs.Text.{characterOf}
 use borrow.Author.Needs.{needs}
 use Rattle.wall.proofs.codes.characters.Statement.{statement}
 use Rattle.wall.proofs.codes.characters.Tie as tie
 
 abbrev Inv-loop : tie.InvT-loop
-Inv-loop codes characters₀ at₀ characters at = Filled (λ p. characterOf (getD codes p 0)) displaySize characters at
+Inv-loop codes characters₀ at₀ characters at = Filled (λ p. characterOf (getD codes p 0)) positions characters at
 
 abbrev μ-loop : tie.MeasureT-loop
-μ-loop codes characters₀ at₀ characters at = displaySize - at
+μ-loop codes characters₀ at₀ characters at = positions - at
 
 loop-holds : tie.Need-loop-holds Inv-loop μ-loop
 loop-holds c = fill-start _ _ _ refl
