@@ -43,7 +43,3 @@ dotsFrame L g = table (λ b. pack (λ i. one (L .used b i && g (L .rowAt b i) (L
 -- how many of g's dots are lit
 unfoldable pub countOf : Landing → (ℕ → ℕ → Bool) → ℕ
 countOf L g = sum (λ r. sum (λ x. one (g r x)) (L .cols)) (L .rows)
-
--- the frame with v or-ed into the dot (r, x)
-abbrev pub put : Landing → List ℕ → ℕ → ℕ → ℕ → List ℕ
-put L f r x v = set f (L .byteAt r x) (bitOr (getD f (L .byteAt r x) 0) (v * 2 ^ L .bitAt r x))

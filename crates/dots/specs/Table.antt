@@ -11,8 +11,3 @@ table h (suc n) = h 0 ∷ table (λ i. h (suc i)) n
 unfoldable pub sum : (ℕ → ℕ) → ℕ → ℕ
 sum h zero = 0
 sum h (suc n) = sum h n + h n
-
--- step 0, then step 1, .., then step (n - 1)
-unfoldable pub inOrder : {A : Type 0} → (ℕ → A → A) → ℕ → A → A
-inOrder step zero a = a
-inOrder step (suc n) a = step n (inOrder step n a)

@@ -42,20 +42,10 @@ toppedOf carried to part =
 abbrev pub more : List ℕ → List ℕ → List ℕ
 more carried part = upTo (reach (carried ++ part)) carried part
 
--- what a carry then holds, and what is left of the part
+-- what a carry then holds
 abbrev pub filled : List ℕ → List ℕ → List ℕ
 filled carried part = carried ++ more carried part
-
-abbrev pub left : List ℕ → List ℕ → List ℕ
-left carried part = drop (length (more carried part)) part
 
 -- a carry filled from a part
 abbrev pub filledOf : List ℕ → List ℕ → Filled
 filledOf carried part = toppedOf carried (reach (carried ++ part)) part
-
--- what is held of a carry's bytes, by its length
-pub record Held (bytes : List ℕ) (len r : ℕ) : Type 0 where
-  pub size : length bytes ≡ room
-  pub most : r ≤ room
-  pub is : take r bytes ≡ take len bytes
-  pub count : r ≡ length (take r bytes)

@@ -71,10 +71,6 @@ cutAt s = noLength s || outsideLength s || tooShort s
 abbrev pub wantsMore : List ℕ → Bool
 wantsMore s = noLength s || (not (outsideLength s) && tooShort s)
 
--- and one that none can, for the length is there and lies outside
-abbrev pub broken : List ℕ → Bool
-broken s = not (noLength s) && outsideLength s
-
 -- an unknown kind
 abbrev pub unknownKind : List ℕ → Bool
 unknownKind s = not (isTransfer s || isReset s)

@@ -47,7 +47,3 @@ advanced t bytes = counted t (rowFor (t .panel) bytes)
 unfoldable pub onward : Totals → List (List ℕ) → Totals
 onward t [] = t
 onward t (bytes ∷ more) = onward (advanced t bytes) more
-
--- the whole records at the front of a log, and how many bytes they are
-abbrev pub consumedOf : Totals → List ℕ → Consumed
-consumedOf t log = record { totals = onward t (frames log); at = length log - length (tail log) }

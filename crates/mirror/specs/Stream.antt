@@ -61,10 +61,6 @@ feedOf st part =
     let s = waitingBytes st ++ part in
     pick (st .over) st (restedOf st (onward (st .totals) (frames s)) (tail s))
 
--- no record is answered: a cut was met, or more bytes are wanted
-abbrev pub stoppedOf : Stream → ℕ → Next
-stoppedOf st taken = record { stream = st; taken = taken; reply = pick (st .over) Cut More }
-
 -- the next record alone, out of the bytes that wait and no more of the part than it needs; 10 comes before 8, and both are final
 unfoldable pub nextOf : Stream → List ℕ → Next
 nextOf st part =

@@ -4,3 +4,4 @@ pub mod Flat
 pub mod Live
 pub mod Acts
 pub mod Part
+pub mod Reading

@@ -1,7 +1,8 @@
 // The streaming form: a log in parts of any size, the bytes between two parts carried in the state. And a run, which is
 // one part.
 ghost use mathlib.Core.Path.{_≡_};
-ghost use Rattle.mirror.specs.Stream.{startOf, panelIn, numberIn, frontOf, restedOf, feedOf, stoppedOf, endOf};
+ghost use Rattle.mirror.specs.Stream.{startOf, panelIn, numberIn, frontOf, restedOf, feedOf, endOf};
+ghost use Rattle.mirror.specs.engine.Reading.{stoppedOf};
 ghost use Rattle.mirror.specs.Promise.{Replies, Runs, endNumber, runNumber};
 use crate::answer::Answer;
 use crate::count::raise;

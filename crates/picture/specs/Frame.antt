@@ -25,10 +25,3 @@ abbrev pub litAt : List ℕ → ℕ → ℕ → Bool
 litAt f r x =
     pick (not (eqb (length f) (glass .size))) false
     (pick (leb (glass .rows) r) false (pick (leb (glass .cols) x) false (eqb (dot glass f r x) 1)))
-
--- the place is where dot (r, x) lands, which is inside the frame
-pub record Lands (r x : ℕ) (place : Place) : Type 0 where
-  pub byte-is : place .byte ≡ glass .byteAt r x
-  pub bit-is : place .bit ≡ glass .bitAt r x
-  pub in-frame : place .byte < glass .size
-  pub in-byte : place .bit < 8

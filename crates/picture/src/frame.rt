@@ -2,8 +2,10 @@
 ghost use mathlib.Core.Path.{_≡_};
 ghost use Prim.Native.Nat.{_<_};
 ghost use lib.ListN.{length, replicate};
-ghost use Rattle.dots.specs.Landing.{dot, put};
-ghost use Rattle.picture.specs.Frame.{Lands, glass, litAt};
+ghost use Rattle.dots.specs.Landing.{dot};
+ghost use Rattle.dots.specs.engine.Cells.{put};
+ghost use Rattle.picture.specs.Frame.{glass, litAt};
+ghost use Rattle.picture.specs.engine.Shown.{Lands};
 use crate::pattern::TALL;
 use crate::pattern::WIDE;
 use chip::sizes::LINES;

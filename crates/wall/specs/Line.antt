@@ -5,7 +5,7 @@ use mathlib.Core.List.{List}
 use lib.Dec.{leb}
 use lib.ListN.{set, replicate}
 use Rattle.laws.specs.Pick.{pick}
-use Rattle.dots.specs.Table.{inOrder}
+use Rattle.dots.specs.engine.Cells.{inOrder}
 use Rattle.picture.specs.Frame.{glass, litAt}
 use Rattle.wall.specs.Draw.{markOf}
 use Rattle.wall.specs.declared.draw.Line.{Line}

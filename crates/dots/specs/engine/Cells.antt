@@ -1,10 +1,21 @@
 -- The order in which a painter goes: line by line, cell by cell, within a cell by rows. A line has `across` cells, a cell
 -- `tall` rows of `wide` dots; the values are handed in by line, cell, row of the cell and column of the cell.
-use Prim.Native.Nat.{ℕ, _+_, _*_}
+use Prim.Native.Nat.{ℕ, zero, suc, _+_, _*_, _^_}
 use mathlib.Core.Path.{_≡_}
 use mathlib.Core.List.{List}
-use Rattle.dots.specs.Table.{inOrder, sum}
-use Rattle.dots.specs.Landing.{Landing, put}
+use Rattle.dots.specs.Table.{sum}
+use Rattle.dots.specs.Landing.{Landing}
+use lib.ListN.{getD, set}
+use lib.Bits.{bitOr}
+
+-- step 0, then step 1, .., then step (n - 1)
+unfoldable pub inOrder : {A : Type 0} → (ℕ → A → A) → ℕ → A → A
+inOrder step zero a = a
+inOrder step (suc n) a = step n (inOrder step n a)
+
+-- the frame with v or-ed into the dot (r, x)
+abbrev pub put : Landing → List ℕ → ℕ → ℕ → ℕ → List ℕ
+put L f r x v = set f (L .byteAt r x) (bitOr (getD f (L .byteAt r x) 0) (v * 2 ^ L .bitAt r x))
 
 -- one row of a cell, from the dot (r, x) on
 abbrev pub strip : Landing → (wide : ℕ) → (ℕ → ℕ) → ℕ → ℕ → List ℕ → List ℕ

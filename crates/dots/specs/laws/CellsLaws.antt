@@ -10,11 +10,11 @@ use lib.ListN.{length, getD, replicate, length-replicate, getD-replicate, List·
 use Rattle.dots.specs.laws.PartsLaws.{place-in, part-of, place-of}
 use Rattle.dots.specs.Bit.{bit, one}
 use Rattle.dots.specs.laws.BitLaws.{one-lt, bit-of-zero}
-use Rattle.dots.specs.Table.{inOrder, sum}
+use Rattle.dots.specs.Table.{sum}
+use Rattle.dots.specs.engine.Cells.{inOrder, put, strip, block, line, page, lineSum, pageSum}
 use Rattle.dots.specs.laws.TableLaws.{in-order-keeps, sum-cong, sum-blocks, sum-swap}
-use Rattle.dots.specs.Landing.{Landing, dot, dotsFrame, countOf, put}
+use Rattle.dots.specs.Landing.{Landing, dot, dotsFrame, countOf}
 use Rattle.dots.specs.laws.LandingLaws.{Bytes, is-frame, length-put, put-same, put-other, put-spare, put-bytes}
-use Rattle.dots.specs.engine.Cells.{strip, block, line, page, lineSum, pageSum}
 
 -- steps that paint g, over any landing
 module _ (L : Landing) (g : ℕ → ℕ → Bool) where

@@ -13,7 +13,8 @@ use lib.Seq.{getD-set-same, getD-set-other, ext-getD}
 use Rattle.dots.specs.Bit.{bit, one, pack}
 use Rattle.dots.specs.laws.BitLaws.{one-lt, bit-pack, is-pack, same-bits, or-same, or-other}
 use Rattle.dots.specs.laws.TableLaws.{length-table, getD-table}
-use Rattle.dots.specs.Landing.{Landing, dot, dotsFrame, put}
+use Rattle.dots.specs.Landing.{Landing, dot, dotsFrame}
+use Rattle.dots.specs.engine.Cells.{put}
 
 -- every element is a byte
 abbrev pub Bytes : List ℕ → Type 0

@@ -8,7 +8,8 @@ use native.Mathlib.Decide.{ℕ-discrete}
 use native.Mathlib.Omega.{arith}
 use lib.ListN.{length, getD, set, length-set, replicate}
 use lib.Seq.{getD-set-same, getD-set-other, ext-getD}
-use Rattle.dots.specs.Table.{table, sum, inOrder}
+use Rattle.dots.specs.Table.{table, sum}
+use Rattle.dots.specs.engine.Cells.{inOrder}
 
 pub length-table : {A : Type 0} (h : ℕ → A) (n : ℕ) → length (table h n) ≡ n
 unfolding table

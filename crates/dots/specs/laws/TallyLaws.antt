@@ -4,11 +4,11 @@ use mathlib.Core.Path.{_≡_, refl, sym, ap, ap₂, _∙_}
 use mathlib.Core.List.{List}
 use native.Mathlib.Omega.{arith}
 use lib.ListN.{length}
-use Rattle.dots.specs.Table.{inOrder, sum}
+use Rattle.dots.specs.Table.{sum}
+use Rattle.dots.specs.engine.Cells.{inOrder, strip, block, Lights}
 use Rattle.dots.specs.laws.TableLaws.{in-order-none, in-order-more, in-order-keeps, sum-none, sum-more, sum-le}
 use Rattle.dots.specs.Landing.{Landing}
 use Rattle.dots.specs.laws.LandingLaws.{length-put}
-use Rattle.dots.specs.engine.Cells.{strip, block, Lights}
 
 -- after k of n steps from the frame f₀: the frame f, and `lit` dots lit
 pub record Through (step : ℕ → List ℕ → List ℕ) (value : ℕ → ℕ) (n : ℕ) (f₀ f : List ℕ) (lit k : ℕ) : Type 0 where

@@ -5,7 +5,8 @@ use mathlib.Core.Bool.{true, false}
 use mathlib.Core.List.{List, [], _∷_, _++_}
 use lib.ListN.{take}
 use Rattle.log.specs.declared.frame.Frame.the-variants.{Cut, Bad, Transfer, Reset}
-use Rattle.log.specs.Frame.{num16, num64, cutAt, badAt, frameOf, wantsMore, broken}
+use Rattle.log.specs.Frame.{num16, num64, cutAt, badAt, frameOf, wantsMore}
+use Rattle.log.specs.laws.CutLaws.{broken}
 use Rattle.log.specs.Frames.{piecesFrom, frames, tail}
 
 abbrev none : List ℕ

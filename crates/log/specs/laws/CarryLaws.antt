@@ -11,14 +11,18 @@ use lib.Dec.{leb, eqb}
 use borrow.Author.Tests.{leb-true, leb-false, le-ltb, ne-eqb}
 use Rattle.laws.specs.Pick.{pick}
 use Rattle.log.specs.declared.carry.Carry.{Carry}
-use Rattle.log.specs.Frame.{lengthOf, recordSize, noLength, outsideLength, cutAt, wantsMore, broken, frameOf, toldSize}
+use Rattle.log.specs.Frame.{lengthOf, recordSize, noLength, outsideLength, cutAt, wantsMore, frameOf, toldSize}
+use Rattle.log.specs.laws.CutLaws.{broken, none-want, wants-few, Wants, length-first, then-body, wants, inside, broken-append, cut-either, broken-cut}
 use Rattle.log.specs.Frames.{then, pieces}
-use Rattle.log.specs.Carry.{room, carriedOf, carryOf, wantingOf, reach, upTo, toppedOf, more, filled, left, filledOf, Held}
-use Rattle.log.specs.engine.Reading.{Reach}
+use Rattle.log.specs.Carry.{room, carriedOf, carryOf, wantingOf, reach, upTo, toppedOf, more, filled, filledOf}
+use Rattle.log.specs.engine.Reading.{Held, Reach}
 use Rattle.log.specs.laws.FrontLaws.{Front, uncut-front, length-same}
 use Rattle.log.specs.laws.FrameLaws.{frame-append, cut-frame}
 use Rattle.log.specs.laws.FramesLaws.{record-first}
-use Rattle.log.specs.laws.CutLaws.{none-want, wants-few, Wants, length-first, then-body, wants, inside, broken-append, cut-either, broken-cut}
+
+-- what is left of a part where its bytes made the carried record whole
+abbrev pub left : List ℕ → List ℕ → List ℕ
+left carried part = drop (length (more carried part)) part
 
 -- a carry holds what it was made of
 pub carried : (s : List ℕ) → carriedOf (carryOf s) ≡ s

@@ -8,8 +8,12 @@ use lib.ListN.{length, length-append}
 use lib.Dec.{ltb}
 use borrow.Author.Tests.{ltb-true, ltb-false, le-ltb}
 use Rattle.laws.specs.Pick.{pick}
-use Rattle.log.specs.Frame.{toldSize, lengthOf, recordSize, noLength, outsideLength, tooShort, cutAt, wantsMore, broken}
+use Rattle.log.specs.Frame.{toldSize, lengthOf, recordSize, noLength, outsideLength, tooShort, cutAt, wantsMore}
 use Rattle.log.specs.laws.FrontLaws.{or-right, length-same}
+
+-- a cut that no more bytes can mend, for the length is there and lies outside
+abbrev pub broken : List ℕ → Bool
+broken s = not (noLength s) && outsideLength s
 
 -- a cut is one of the two, and never both
 pub cut-either : (s : List ℕ) → cutAt s ≡ (wantsMore s || broken s)

@@ -6,8 +6,8 @@ use mathlib.Core.Bool.{Bool, true, false, false≢true}
 use mathlib.Core.List.{List, [], _∷_, _++_, append-assoc}
 use lib.ListN.{length, length-append, take, drop, take-append-drop}
 use lib.Seq.{length-take-le, take-length, take-append-le, drop-append-le, drop-length}
-use Rattle.log.specs.Frame.{lengthOf, recordSize, cutAt, broken}
-use Rattle.log.specs.laws.CutLaws.{broken-append, broken-cut}
+use Rattle.log.specs.Frame.{lengthOf, recordSize, cutAt}
+use Rattle.log.specs.laws.CutLaws.{broken, broken-append, broken-cut}
 use Rattle.log.specs.Frames.{Pieces, then, piecesFrom, pieces, frames, tail, recordsOf, joined}
 use Rattle.log.specs.laws.FrontLaws.{Front, uncut-front, front-append, front-take}
 

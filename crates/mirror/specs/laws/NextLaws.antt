@@ -12,8 +12,8 @@ use Rattle.log.specs.Frame.{frameOf, isReset, cutAt, badAt, wantsMore}
 use Rattle.log.specs.Frames.{Pieces, frames, tail}
 use Rattle.log.specs.laws.CutLaws.{none-want, wants-cut}
 use Rattle.log.specs.laws.FramesLaws.{frames-cut, tail-cut, record-first}
-use Rattle.log.specs.Carry.{carriedOf, reach, more, filled, left}
-use Rattle.log.specs.laws.CarryLaws.{wanting-wants, fill-front, more-left}
+use Rattle.log.specs.Carry.{carriedOf, reach, more, filled}
+use Rattle.log.specs.laws.CarryLaws.{left, wanting-wants, fill-front, more-left}
 use Rattle.mirror.specs.Answer.{Paper}
 use Rattle.mirror.specs.Panel.{soundPanel}
 use Rattle.mirror.specs.Table.{isBack, transferFor, numberFor, byteFor, Tabled, rowFor}
@@ -22,7 +22,8 @@ use Rattle.mirror.specs.Promise.{spoken, Replies, summed, Runs}
 use Rattle.mirror.specs.engine.Record.{answered}
 use Rattle.mirror.specs.Run.{started, counted, onward}
 use Rattle.mirror.specs.laws.RunLaws.{uncut-used, cut-used}
-use Rattle.mirror.specs.Stream.{waitingBytes, restedOf, feedOf, stoppedOf, nextOf, runAs, runOf}
+use Rattle.mirror.specs.Stream.{waitingBytes, restedOf, feedOf, nextOf, runAs, runOf}
+use Rattle.mirror.specs.engine.Reading.{stoppedOf}
 use Rattle.mirror.specs.laws.StreamLaws.{Fed, feed-open, feed-append}
 use Rattle.mirror.specs.declared.record.Recorded.{Recorded}
 use Rattle.mirror.specs.declared.stream.Stream.{Stream}

@@ -13,7 +13,8 @@ use Rattle.laws.specs.Pick.{pick}
 use Rattle.laws.specs.engine.Turns.{turns}
 use Rattle.laws.specs.laws.TurnsLaws.{append, one-more}
 use Rattle.mirror.specs.Answer.{numberOf}
-use Rattle.mirror.specs.Run.{mostCount, raised, tallied, consumedOf}
+use Rattle.mirror.specs.Run.{mostCount, raised, tallied}
+use Rattle.mirror.specs.engine.Reading.{consumedOf}
 use Rattle.mirror.specs.engine.Part.{raisedBy, addedTo, upTo, bumped, Room}
 use Rattle.log.specs.Frame.{frameOf}
 use Rattle.mirror.specs.engine.Record.{answered}

@@ -20,7 +20,8 @@ use Rattle.mirror.specs.engine.Way.{Way, wayOf}
 use Rattle.mirror.specs.Words.{joinedOf, free, done}
 use Rattle.mirror.specs.engine.Record.{recorded, went, transferred, answered}
 use Rattle.mirror.specs.laws.TableLaws.{answered-row}
-use Rattle.mirror.specs.Run.{counted, advanced, onward, consumedOf}
+use Rattle.mirror.specs.Run.{counted, advanced, onward}
+use Rattle.mirror.specs.engine.Reading.{consumedOf}
 use Rattle.mirror.specs.declared.answer.Answer.the-variants as say
 use Rattle.mirror.specs.declared.panel.Panel.{Panel}
 use Rattle.mirror.specs.declared.record.Recorded.{Recorded}

@@ -10,21 +10,23 @@ use lib.Seq.{drop-append-seam, drop-drop}
 use lib.Dec.{ltb}
 use borrow.Author.Tests.{ltb-true, ltb-false, lt-ltb, le-ltb}
 use Rattle.laws.specs.Pick.{pick}
-use Rattle.log.specs.Frame.{frameOf, cutAt, wantsMore, broken, recordSize}
+use Rattle.log.specs.Frame.{frameOf, cutAt, wantsMore, recordSize}
+use Rattle.log.specs.laws.CutLaws.{broken, cut-either, cut-one, none-want, broken-append, wants-cut}
 use Rattle.log.specs.Frames.{Pieces, then, frames, tail, joined}
 use Rattle.log.specs.laws.FrontLaws.{uncut-front}
 use Rattle.log.specs.laws.FrameLaws.{cut-frame, frame-cut}
-use Rattle.log.specs.laws.CutLaws.{cut-either, cut-one, none-want, broken-append, wants-cut}
 use Rattle.log.specs.laws.FramesLaws.{frames-cut, tail-cut, tail-next, joined-frames, tail-is-cut, pieces-append, pieces-broken, record-first}
-use Rattle.log.specs.Carry.{carriedOf, carryOf, wantingOf, reach, toppedOf, more, filled, left, filledOf, Held}
-use Rattle.log.specs.laws.CarryLaws.{carried, fill-carried, wanting-wants, fill-wants, fill-broken, fill-frame, fill-front, fill-whole}
+use Rattle.log.specs.Carry.{carriedOf, carryOf, wantingOf, reach, toppedOf, more, filled, filledOf}
+use Rattle.log.specs.laws.CarryLaws.{left, carried, fill-carried, wanting-wants, fill-wants, fill-broken, fill-frame, fill-front, fill-whole}
+use Rattle.log.specs.engine.Reading.{Held}
 use Rattle.log.specs.Flaw.{flawOf}
 use Rattle.log.specs.declared.flaw.Flaw.{Flaw}
 use Rattle.log.specs.declared.frame.Frame.{Frame}
 use Rattle.log.specs.declared.carry.Carry.{Carry}
 use Rattle.log.specs.declared.carry.Filled.{Filled}
 use Rattle.mirror.specs.Panel.{soundPanel}
-use Rattle.mirror.specs.Run.{mostCount, capped, raised, started, advanced, onward, consumedOf}
+use Rattle.mirror.specs.Run.{mostCount, capped, raised, started, advanced, onward}
+use Rattle.mirror.specs.engine.Reading.{consumedOf}
 use Rattle.mirror.specs.Stream.{standIn, startAs, startOf, waitingBytes, frontOf, restedOf, feedOf, cutOf, endOf, runAs, runOf}
 use Rattle.mirror.specs.declared.panel.Panel.{Panel}
 use Rattle.mirror.specs.declared.totals.Totals.{Totals}

@@ -1,5 +1,6 @@
 -- The eight rows that the painter shows at a position. That their dots are the lit ones is the law `shown-lit`.
-use Prim.Native.Nat.{ℕ, _-_, _%_}
+use Prim.Native.Nat.{ℕ, _-_, _%_, _<_}
+use mathlib.Core.Path.{_≡_}
 use mathlib.Core.Bool.{Bool, not, _&&_}
 use mathlib.Core.List.{List, []}
 use lib.Dec.{ltb, eqb}
@@ -14,6 +15,7 @@ use Rattle.picture.specs.Pattern.{tall, wide, patterns, fontStart, glyph
 use Rattle.picture.specs.Cursor.{positionOf}
 use Rattle.picture.specs.Frame.{glass}
 use Rattle.picture.specs.Picture.{shapeAt, cursorRow}
+use Rattle.picture.specs.declared.frame.Place.{Place}
 
 -- the pattern of a code, the panel's own four being at hand
 abbrev pub shapeFrom : List (List ℕ) → List ℕ → ℕ → List ℕ
@@ -51,3 +53,10 @@ PutsCell rows r x = Lights (block glass tall wide (cellDot rows) r x) (blockSum 
 
 abbrev pub PutsLine : Sheet → List ℕ → Bool → List ℕ → List ℕ → ℕ → Type 0
 PutsLine s font dark = Lights (line glass tall wide positions (lineDot s font dark) 0) (lineSum tall wide positions (lineDot s font dark))
+
+-- the place is where dot (r, x) lands, which is inside the frame
+pub record Lands (r x : ℕ) (place : Place) : Type 0 where
+  pub byte-is : place .byte ≡ glass .byteAt r x
+  pub bit-is : place .bit ≡ glass .bitAt r x
+  pub in-frame : place .byte < glass .size
+  pub in-byte : place .bit < 8

@@ -8,7 +8,7 @@ use native.Mathlib.Omega.{arith}
 use borrow.Author.Tests.{lt-leb}
 use lib.ListN.{length, take, set, length-append, length-set}
 use lib.Seq.{take-suc-set}
-use Rattle.dots.specs.Table.{inOrder}
+use Rattle.dots.specs.engine.Cells.{inOrder}
 use Rattle.picture.specs.Frame.{glass, litAt}
 use Rattle.wall.specs.Draw.{markOf, pairOf, strung, barred, rowBytes, pairBytes, lineBytes}
 use Rattle.wall.specs.Line.{lineSize, withByte, withBlock, withPair, opened, closed, rowStep, pairStep, drawn}

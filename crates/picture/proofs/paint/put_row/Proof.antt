@@ -7,8 +7,7 @@ use borrow.Author.Needs.{needs}
 use denote.Ref.{now}
 use lib.ListN.{length}
 use lib.Bits.{bitAnd, and-mask}
-use Rattle.dots.specs.Landing.{put}
-use Rattle.dots.specs.Table.{inOrder}
+use Rattle.dots.specs.engine.Cells.{put, inOrder}
 use Rattle.dots.specs.laws.TableLaws.{in-order-none, in-order-more}
 use Rattle.dots.specs.laws.TallyLaws.{length-strip}
 use Rattle.picture.specs.Pattern.{wide, tall}

@@ -3,7 +3,7 @@ use mathlib.Core.Path.{ap, sym, _∙_}
 use native.Mathlib.Omega.{arith}
 use denote.Ref.{now}
 use Rattle.laws.specs.laws.Lists.{all-left}
-use Rattle.mirror.specs.Run.{consumedOf}
+use Rattle.mirror.specs.engine.Reading.{consumedOf}
 use Rattle.mirror.specs.Stream.{restedOf}
 use Rattle.mirror.specs.laws.StreamLaws.{feed-over, has-fed, feed-stops, feed-goes}
 use borrow.Author.Needs.{needs}

@@ -9,7 +9,7 @@ use lib.ListN.{length, take, drop}
 use Rattle.laws.specs.laws.Lists.{all-left}
 use Rattle.log.specs.Frame.{frameOf}
 use Rattle.mirror.specs.engine.Record.{answered}
-use Rattle.mirror.specs.Run.{consumedOf}
+use Rattle.mirror.specs.engine.Reading.{consumedOf}
 use Rattle.mirror.specs.engine.Live.{panelOf, totalsOf}
 use Rattle.mirror.specs.laws.PartLaws.{Counting, counting-starts, counting-ends, counting-within, counting-room, counting-goes}
 use Rattle.mirror.specs.declared.panel.Panel.{Panel}
