@@ -1,8 +1,8 @@
 // The registers laid flat for the engine. What is copied as one is held as one over the loop, and its bits are shifted out
-// at every record (docs/DECISIONS.md, "Speed"); so the address has two fields, and what only an instruction changes is a
-// struct of seven bytes.
+// at every record (docs/DECISIONS.md, "Speed"); so the address has three fields, a number of each type and which of the two
+// counts, and what only an instruction changes is a struct of seven bytes.
 ghost use mathlib.Core.Path.{_≡_};
-ghost use Rattle.mirror.specs.engine.Flat.{patternedOf, placeOf, addressOf, modesOf, registersFrom};
+ghost use Rattle.mirror.specs.engine.Flat.{patternedOf, displayPart, patternPart, addressOf, modesOf, registersWith};
 use chip::address::Address;
 use chip::address::DisplayAddress;
 use chip::address::PatternAddress;
@@ -28,24 +28,34 @@ pub(crate) fn patterned(address: Address) -> bool
     }
 }
 
-// The address's number.
-pub(crate) fn place(address: Address) -> u8
-    ensures { λ r. ⌜ r ≡ placeOf address ⌝ }
+// The display address, 0 where the pattern address counts.
+pub(crate) fn display_part(address: Address) -> DisplayAddress
+    ensures { λ r. ⌜ r ≡ displayPart address ⌝ }
 {
     match address {
-        Address::Display(d) => d.0,
-        Address::Pattern(p) => p.0,
+        Address::Display(d) => d,
+        Address::Pattern(_) => DisplayAddress(0),
     }
 }
 
-// The address of its two fields.
-pub(crate) fn address(patterned: bool, place: u8) -> Address
-    ensures { λ r. ⌜ r ≡ addressOf patterned place ⌝ }
+// The pattern address, 0 where the display address counts.
+pub(crate) fn pattern_part(address: Address) -> PatternAddress
+    ensures { λ r. ⌜ r ≡ patternPart address ⌝ }
+{
+    match address {
+        Address::Display(_) => PatternAddress(0),
+        Address::Pattern(p) => p,
+    }
+}
+
+// The address of its three fields.
+pub(crate) fn address(patterned: bool, display: DisplayAddress, pattern: PatternAddress) -> Address
+    ensures { λ r. ⌜ r ≡ addressOf patterned display pattern ⌝ }
 {
     if patterned {
-        return Address::Pattern(PatternAddress(place));
+        return Address::Pattern(pattern);
     }
-    Address::Display(DisplayAddress(place))
+    Address::Display(display)
 }
 
 pub(crate) fn modes_of(registers: Registers) -> Modes
@@ -63,10 +73,9 @@ pub(crate) fn modes_of(registers: Registers) -> Modes
 }
 
 // The registers put together again.
-pub(crate) fn registers(patterned: bool, place: u8, shift: u8, modes: Modes) -> Registers
-    ensures { λ r. ⌜ r ≡ registersFrom patterned place shift modes ⌝ }
+pub(crate) fn registers(a: Address, shift: u8, modes: Modes) -> Registers
+    ensures { λ r. ⌜ r ≡ registersWith a shift modes ⌝ }
 {
-    let a = address(patterned, place);
     Registers {
         shift,
         up: modes.up,

@@ -4,26 +4,31 @@ ghost use Prim.Native.Nat.{_<_};
 ghost use lib.Dec.{leb, ltb};
 ghost use Rattle.laws.specs.Pick.{pick};
 ghost use Rattle.mirror.specs.Panel.{timeEnd};
-ghost use Rattle.mirror.specs.engine.Live.{registersOf, halfOf, panelOf, Opens, Refuses, Passes, Misses, Waits, Offers, Tears, Does, Shows};
+ghost use Rattle.mirror.specs.engine.Live.{addressAt, registersOf, halfOf, panelOf, Opens, Refuses, Passes, Misses, Waits, Offers, Tears, Does, Shows};
 use crate::answer::Answer;
 use crate::flat::Modes;
 use crate::flat::address;
+use crate::flat::display_part;
 use crate::flat::modes_of;
+use crate::flat::pattern_part;
 use crate::flat::patterned;
-use crate::flat::place;
 use crate::flat::registers;
 use crate::half::Half;
 use crate::panel::Panel;
 use crate::panel::Times;
+use chip::address::Address;
+use chip::address::DisplayAddress;
+use chip::address::PatternAddress;
 use chip::registers::Registers;
 use chip::sheet::Sheet;
 use chip::sizes::DISPLAY_SIZE;
 use chip::sizes::PATTERN_SIZE;
 
 pub struct Live {
-    // The address: of which memory, and its number.
+    // The address: which of the two counts, and both; the one that does not is 0.
     pub patterned: bool,
-    pub place: u8,
+    pub display: DisplayAddress,
+    pub pattern: PatternAddress,
     pub shift: u8,
     pub modes: Modes,
     pub busy: u64,
@@ -56,7 +61,8 @@ impl Live {
         let a = r.address;
         let bare = Live {
             patterned: patterned(a),
-            place: place(a),
+            display: display_part(a),
+            pattern: pattern_part(a),
             shift: r.shift,
             modes: modes_of(r),
             busy: panel.busy,
@@ -87,11 +93,19 @@ impl Live {
         }
     }
 
+    fn address(self) -> Address
+        ensures { λ r. ⌜ r ≡ addressAt self ⌝ }
+    {
+        let d = self.display;
+        let p = self.pattern;
+        address(self.patterned, d, p)
+    }
+
     pub(crate) fn registers(self) -> Registers
         ensures { λ r. ⌜ r ≡ registersOf self ⌝ }
     {
         let m = self.modes;
-        registers(self.patterned, self.place, self.shift, m)
+        registers(self.address(), self.shift, m)
     }
 
     fn half(self) -> Half
@@ -241,7 +255,8 @@ impl Live {
         let left = self.pass(time, Answer::Taken, byte, used);
         Live {
             patterned: patterned(a),
-            place: place(a),
+            display: display_part(a),
+            pattern: pattern_part(a),
             shift: registers.shift,
             modes: modes_of(registers),
             busy: time + span as u64,
@@ -253,7 +268,7 @@ impl Live {
     pub(crate) fn status(self, time: u64) -> u8
         ensures { λ r. ⌜ Shows time self r ⌝ }
     {
-        let a = address(self.patterned, self.place);
+        let a = self.address();
         let n = a.number();
         if self.free(time) { n } else { 128 + n }
     }

@@ -11,6 +11,7 @@ use lib.Seq.{drop-cons}
 use lib.Dec.{ltb, leb}
 use borrow.Author.Tests.{leb-false, not-false, lt-ltb, lt-leb}
 use Rattle.laws.specs.Pick.{pick}
+use Rattle.laws.specs.Ring.{moved}
 use Rattle.laws.specs.laws.PickLaws.{past}
 use Rattle.laws.specs.laws.RingLaws.{moved-below}
 use Rattle.chip.specs.Sizes.{positions, displaySize, patternSize, rowEnd, functionEnd}
@@ -63,10 +64,13 @@ whole s h =
     ap (λ b. pick b false (patternFits (s .pattern))) (lt-leb functionEnd (s .registers .function) (h .function)) ∙
     h .entries
 
--- an address that moves stays in its memory
+-- an address that moves stays in its memory, whatever its size
+round-fits : (n : ℕ) (up : Bool) (a : ℕ) → 0 < n → ltb (moved n up a) n ≡ true
+round-fits n up a z = lt-ltb _ n (moved-below n up a z)
+
 moved-fits : (up : Bool) (a : Address) → addressFits (movedAddress up a) ≡ true
-moved-fits up (Display d) = lt-ltb _ displaySize (moved-below displaySize up (d .0) (omega arith))
-moved-fits up (Pattern p) = lt-ltb _ patternSize (moved-below patternSize up (p .0) (omega arith))
+moved-fits up (Display d) = round-fits displaySize up (d .0) (omega arith)
+moved-fits up (Pattern p) = round-fits patternSize up (p .0) (omega arith)
 
 -- five bits stored among entries of five bits
 set-fits : (l : List ℕ) (i x : ℕ) → x < rowEnd → patternFits l ≡ true → patternFits (set l i x) ≡ true

@@ -115,14 +115,20 @@ display-back d byte m h = back displaySize (d .0) byte m (omega arith) h
 pub pattern-back : (p : PatternAddress) (byte : ℕ) (m : List ℕ) → patternSize ≤ length m → readPattern p (writtenPattern p byte m) ≡ byte % rowEnd
 pattern-back p byte m h = ap (λ x. x % rowEnd) (back patternSize (p .0) (byte % rowEnd) m (omega arith) h) ∙ mod-mod byte rowEnd
 
--- and every other place stays as it was
+-- and every other place stays as it was, whatever part of a byte the memory keeps
+others : (part : ℕ → ℕ) (n a b v : ℕ) (m : List ℕ) → (b % n ≡ a % n → ⊥) → part (getD (set m (a % n) v) (b % n) 0) ≡ part (getD m (b % n) 0)
+others part n a b v m d = ap part (getD-set-other m (a % n) (b % n) v 0 d)
+
 pub display-others : (d e : DisplayAddress) (byte : ℕ) (m : List ℕ) → (e .0 % displaySize ≡ d .0 % displaySize → ⊥) → readDisplay e (writtenDisplay d byte m) ≡ readDisplay e m
-display-others d e byte m n = getD-set-other m (d .0 % displaySize) (e .0 % displaySize) byte 0 n
+display-others d e byte m n = others (λ x. x) displaySize (d .0) (e .0) byte m n
 
 pub pattern-others : (p q : PatternAddress) (byte : ℕ) (m : List ℕ) → (q .0 % patternSize ≡ p .0 % patternSize → ⊥) → readPattern q (writtenPattern p byte m) ≡ readPattern q m
-pattern-others p q byte m n = ap (λ x. x % rowEnd) (getD-set-other m (p .0 % patternSize) (q .0 % patternSize) (byte % rowEnd) 0 n)
+pattern-others p q byte m n = others (λ x. x % rowEnd) patternSize (p .0) (q .0) (byte % rowEnd) m n
 
--- an address has seven bits at most
+-- an address has seven bits at most, since neither memory has more than 128 places
+round-small : (n a : ℕ) → 0 < n → n ≤ 128 → a % n < 128
+round-small n a z h = omega (arith, h, mod-lt a z)
+
 pub number-small : (a : Address) → addressNumber a < 128
-number-small (Display d) = omega (arith, mod-lt (d .0) {m = displaySize} (omega arith))
-number-small (Pattern p) = omega (arith, mod-lt (p .0) {m = patternSize} (omega arith))
+number-small (Display d) = round-small displaySize (d .0) (omega arith) (omega arith)
+number-small (Pattern p) = round-small patternSize (p .0) (omega arith) (omega arith)

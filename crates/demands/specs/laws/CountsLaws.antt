@@ -18,12 +18,13 @@ use Rattle.log.specs.laws.FrontLaws.{uncut-front}
 use Rattle.log.specs.declared.frame.Frame.{Frame}
 use Rattle.log.specs.declared.frame.Frame.the-variants as frame
 use Rattle.mirror.specs.Answer.{numberOf}
-use Rattle.mirror.specs.engine.Way.{Way, wayOf}
+use Rattle.mirror.specs.engine.Way.{wayOf}
 use Rattle.mirror.specs.Words.{joinedOf, free}
-use Rattle.mirror.specs.engine.Record.{went, transferred, answered}
+use Rattle.mirror.specs.engine.Record.{transferred, answered}
 use Rattle.mirror.specs.Run.{mostCount, capped, raised, tallied, started}
 use Rattle.mirror.specs.Panel.{soundPanel}
 use Rattle.mirror.specs.Stream.{runAs, runOf}
+use Rattle.mirror.specs.laws.RunLaws.{Counted, went-settled}
 use Rattle.mirror.specs.laws.StreamLaws.{raised-capped, onward-records}
 use Rattle.mirror.specs.declared.answer.Answer.{Answer}
 use Rattle.mirror.specs.declared.answer.Answer.the-variants as say
@@ -88,24 +89,6 @@ pub counts : Counts runOf
 counts p log h = each-count ours p log (of-run p log h)
 
 -- TOGETHER. Every record of a log is answered 0 to 7
-abbrev Counted : Answer → Type 0
-Counted a = ltb (numberOf a) 8 ≡ true
-
-went-counted : (v : Way) (time : ℕ) (rs reads : Bool) (bus byte : ℕ) (p : Panel) → Counted (went v time rs reads bus byte p .answer)
-went-counted Way.Torn time rs reads bus byte p = refl
-went-counted Way.Ignored time rs reads bus byte p = refl
-went-counted Way.Missed time rs reads bus byte p = refl
-went-counted Way.Nothing time rs reads bus byte p = refl
-went-counted Way.HoldStatus time rs reads bus byte p = refl
-went-counted Way.HoldRead time rs reads bus byte p = refl
-went-counted Way.HoldWrite time rs reads bus byte p = refl
-went-counted Way.Status time rs reads bus byte p = refl
-went-counted Way.StatusEnd time rs reads bus byte p = refl
-went-counted Way.Read time rs reads bus byte p = refl
-went-counted Way.ReadEnd time rs reads bus byte p = refl
-went-counted Way.Write time rs reads bus byte p = refl
-went-counted Way.Obey time rs reads bus byte p = refl
-
 pick-counted : (z : Bool) (x y : Recorded) → Counted (x .answer) → Counted (y .answer) → Counted (pick z x y .answer)
 pick-counted true x y h k = h
 pick-counted false x y h k = k
@@ -118,7 +101,7 @@ answered-counted (frame.Reset time) p r = pick-counted (ltb time (p .last)) _ _ 
 answered-counted (frame.Transfer time rs reads bus) p r =
     let byte = joinedOf (p .sheet .registers .eight) (p .half) bus in
     pick-counted (ltb time (p .last)) _ (transferred time rs reads bus p) refl
-    (went-counted (wayOf (p .sheet .registers .eight) (p .half) (free time p) rs reads byte) time rs reads bus byte p)
+    (went-settled (wayOf (p .sheet .registers .eight) (p .half) (free time p) rs reads byte) time rs reads bus byte p .counts)
 
 uncut-record : (s : List ℕ) → cutAt s ≡ false → IsRecord (frameOf s)
 unfolding frameOf

@@ -3,23 +3,29 @@ use Prim.Native.Nat.{ℕ}
 use mathlib.Core.Bool.{Bool, true, false}
 use Rattle.laws.specs.Pick.{pick}
 use Rattle.chip.specs.Address.{display, pattern}
+use Rattle.chip.specs.declared.address.DisplayAddress.{DisplayAddress}
+use Rattle.chip.specs.declared.address.PatternAddress.{PatternAddress}
 use Rattle.chip.specs.declared.address.Address.{Address}
 use Rattle.chip.specs.declared.address.Address.the-variants.{Display, Pattern}
 use Rattle.chip.specs.declared.registers.Registers.{Registers}
 use Rattle.mirror.specs.declared.flat.Modes.{Modes}
 
--- whether it is a pattern address, and its number
+-- whether it is a pattern address; the address of each type, 0 where the other counts
 abbrev pub patternedOf : Address → Bool
 patternedOf (Display d) = false
 patternedOf (Pattern p) = true
 
-abbrev pub placeOf : Address → ℕ
-placeOf (Display d) = d .0
-placeOf (Pattern p) = p .0
+abbrev pub displayPart : Address → DisplayAddress
+displayPart (Display d) = d
+displayPart (Pattern p) = display 0
 
--- the address of its two fields
-abbrev pub addressOf : Bool → ℕ → Address
-addressOf patterned n = pick patterned (Pattern (pattern n)) (Display (display n))
+abbrev pub patternPart : Address → PatternAddress
+patternPart (Display d) = pattern 0
+patternPart (Pattern p) = p
+
+-- the address of its three fields
+abbrev pub addressOf : Bool → DisplayAddress → PatternAddress → Address
+addressOf patterned d p = pick patterned (Pattern p) (Display d)
 
 -- the registers that only an instruction changes
 abbrev pub modesOf : Registers → Modes
@@ -34,6 +40,7 @@ modesOf r =
       function = r .function;
     }
 
+-- the registers put together again
 abbrev pub registersWith : Address → ℕ → Modes → Registers
 registersWith a shift m =
     record {
@@ -47,7 +54,3 @@ registersWith a shift m =
       eight = m .eight;
       function = m .function;
     }
-
--- the registers put together again
-abbrev pub registersFrom : Bool → ℕ → ℕ → Modes → Registers
-registersFrom patterned place shift m = registersWith (addressOf patterned place) shift m

@@ -5,7 +5,8 @@ use mathlib.Core.List.{List}
 use lib.Dec.{eqb, ltb}
 use Rattle.laws.specs.Pick.{pick}
 use Rattle.chip.specs.Sheet.{sheetOf}
-use Rattle.mirror.specs.engine.Flat.{registersFrom}
+use Rattle.mirror.specs.engine.Flat.{addressOf, registersWith}
+use Rattle.chip.specs.declared.address.Address.{Address}
 use Rattle.chip.specs.declared.registers.Registers.{Registers}
 use Rattle.mirror.specs.engine.Record.{recorded}
 use Rattle.mirror.specs.Words.{holding, statusOf, done}
@@ -20,9 +21,12 @@ use Rattle.mirror.specs.declared.panel.Times.{Times}
 use Rattle.mirror.specs.declared.record.Recorded.{Recorded}
 use Rattle.mirror.specs.declared.totals.Totals.{Totals}
 
--- the registers of a state
+-- the address of a state, and its registers
+abbrev pub addressAt : Live → Address
+addressAt k = addressOf (k .patterned) (k .display) (k .pattern)
+
 abbrev pub registersOf : Live → Registers
-registersOf k = registersFrom (k .patterned) (k .place) (k .shift) (k .modes)
+registersOf k = registersWith (addressAt k) (k .shift) (k .modes)
 
 -- the half that waits: none, one that the busy chip ignored, or one that counts
 abbrev pub halfFrom : ℕ → Bool → Bool → ℕ → Half

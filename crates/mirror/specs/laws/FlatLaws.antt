@@ -1,21 +1,29 @@
 -- What is laid flat is put together as it was.
-use Prim.Native.Nat.{ℕ}
 use mathlib.Core.Path.{_≡_, refl, ap, _∙_}
 use mathlib.Core.Bool.{Bool}
+use Rattle.chip.specs.declared.address.DisplayAddress.{DisplayAddress}
+use Rattle.chip.specs.declared.address.PatternAddress.{PatternAddress}
 use Rattle.chip.specs.declared.address.Address.{Address}
 use Rattle.chip.specs.declared.address.Address.the-variants.{Display, Pattern}
 use Rattle.chip.specs.declared.registers.Registers.{Registers}
-use Rattle.mirror.specs.engine.Flat.{patternedOf, placeOf, addressOf, modesOf, registersWith, registersFrom}
+use Rattle.mirror.specs.engine.Flat.{patternedOf, displayPart, patternPart, addressOf, modesOf, registersWith}
 use Rattle.mirror.specs.declared.flat.Modes.{Modes}
 
-address-back : (a : Address) → addressOf (patternedOf a) (placeOf a) ≡ a
-address-back (Display d) = refl
-address-back (Pattern p) = refl
+-- what a state holds of an address: which of the two counts, and both
+pub record Stands (a : Address) (b : Bool) (d : DisplayAddress) (p : PatternAddress) : Type 0 where
+  pub which : b ≡ patternedOf a
+  pub display : d ≡ displayPart a
+  pub pattern : p ≡ patternPart a
 
-pub registers-back : (r : Registers) (b : Bool) (n : ℕ) (m : Modes) → b ≡ patternedOf (r .address) → n ≡ placeOf (r .address) → m ≡ modesOf r →
-    registersFrom b n (r .shift) m ≡ r
-registers-back r b n m e f g =
-    ap (λ x. registersFrom x n (r .shift) m) e
-    ∙ ap (λ x. registersFrom (patternedOf (r .address)) x (r .shift) m) f
-    ∙ ap (λ x. registersWith x (r .shift) m) (address-back (r .address))
-    ∙ ap (λ x. registersWith (r .address) (r .shift) x) g
+address-back : (a : Address) {b : Bool} {d : DisplayAddress} {p : PatternAddress} → Stands a b d p → addressOf b d p ≡ a
+address-back a {b} {d} {p} s =
+    ap (λ x. addressOf x d p) (s .which) ∙ ap (λ x. addressOf (patternedOf a) x p) (s .display)
+    ∙ ap (λ x. addressOf (patternedOf a) (displayPart a) x) (s .pattern) ∙ by a
+  where
+    by : (x : Address) → addressOf (patternedOf x) (displayPart x) (patternPart x) ≡ x
+    by (Display y) = refl
+    by (Pattern y) = refl
+
+pub registers-back : (r : Registers) {b : Bool} {d : DisplayAddress} {p : PatternAddress} {m : Modes} → Stands (r .address) b d p → m ≡ modesOf r →
+    registersWith (addressOf b d p) (r .shift) m ≡ r
+registers-back r {b} {d} {p} {m} s g = ap (λ x. registersWith x (r .shift) m) (address-back (r .address) s) ∙ ap (λ x. registersWith (r .address) (r .shift) x) g

@@ -4,9 +4,11 @@ use mathlib.Core.Path.{_≡_, sym, ap, _∙_}
 use mathlib.Core.Bool.{Bool}
 use mathlib.Core.List.{List}
 use Rattle.chip.specs.Sheet.{sheetOf}
+use Rattle.chip.specs.declared.address.DisplayAddress.{DisplayAddress}
+use Rattle.chip.specs.declared.address.PatternAddress.{PatternAddress}
 use Rattle.chip.specs.declared.registers.Registers.{Registers}
-use Rattle.mirror.specs.engine.Flat.{patternedOf, placeOf, modesOf, registersFrom}
-use Rattle.mirror.specs.laws.FlatLaws.{registers-back}
+use Rattle.mirror.specs.engine.Flat.{addressOf, modesOf, registersWith}
+use Rattle.mirror.specs.laws.FlatLaws.{Stands, registers-back}
 use Rattle.mirror.specs.engine.Record.{recorded}
 use Rattle.mirror.specs.Words.{done}
 use Rattle.mirror.specs.engine.Live.{panelOf, recordedOf, Passes}
@@ -29,18 +31,18 @@ withParts p r h =
       last = p .last;
     }
 
-pub opened : (p : Panel) (b : Bool) (n : ℕ) (m : Modes) (h : Half) →
-    b ≡ patternedOf (p .sheet .registers .address) → n ≡ placeOf (p .sheet .registers .address) → m ≡ modesOf (p .sheet .registers) → p .half ≡ h →
-    withParts p (registersFrom b n (p .sheet .registers .shift) m) h ≡ p
-opened p b n m h e f g k =
-    ap (λ x. withParts p x h) (registers-back (p .sheet .registers) b n m e f g) ∙ ap (λ x. withParts p (p .sheet .registers) x) (sym k)
+pub opened : (p : Panel) {b : Bool} {d : DisplayAddress} {q : PatternAddress} {m : Modes} (h : Half) →
+    Stands (p .sheet .registers .address) b d q → m ≡ modesOf (p .sheet .registers) → p .half ≡ h →
+    withParts p (registersWith (addressOf b d q) (p .sheet .registers .shift) m) h ≡ p
+opened p h s g k = ap (λ x. withParts p x h) (registers-back (p .sheet .registers) s g) ∙ ap (λ x. withParts p (p .sheet .registers) x) (sym k)
 
 -- a state with its registers and its busy end set anew
-abbrev withBusy : Live → Bool → ℕ → ℕ → Modes → ℕ → Live
-withBusy k b n shift m busy =
+abbrev withBusy : Live → Bool → DisplayAddress → PatternAddress → ℕ → Modes → ℕ → Live
+withBusy k b d p shift m busy =
     record {
       patterned = b;
-      place = n;
+      display = d;
+      pattern = p;
       shift = shift;
       modes = m;
       busy = busy;
@@ -54,20 +56,20 @@ withBusy k b n shift m busy =
       used = k .used;
     }
 
-pub carried : (k left : Live) (r : Registers) (b : Bool) (n : ℕ) (m : Modes) (time span byte used : ℕ) → Passes time say.Taken byte used k left →
-    b ≡ patternedOf (r .address) → n ≡ placeOf (r .address) → m ≡ modesOf r → (t : Times) (d p : List ℕ) →
-    recordedOf t (withBusy left b n (r .shift) m (time + span)) d p ≡ recorded (done time (sheetOf r d p) span (panelOf t k d p)) say.Taken byte used
-carried k left r b n m time span byte used w e f g t d p =
+pub carried : (k left : Live) (r : Registers) {b : Bool} {x : DisplayAddress} {y : PatternAddress} {m : Modes} (time span byte used : ℕ) →
+    Passes time say.Taken byte used k left → Stands (r .address) b x y → m ≡ modesOf r → (t : Times) (d p : List ℕ) →
+    recordedOf t (withBusy left b x y (r .shift) m (time + span)) d p ≡ recorded (done time (sheetOf r d p) span (panelOf t k d p)) say.Taken byte used
+carried k left r {b} {x} {y} {m} time span byte used w s g t d p =
     ap
-    (λ (x : Recorded).
+    (λ (z : Recorded).
     recorded
     (record {
-      sheet = sheetOf (registersFrom b n (r .shift) m) d p;
+      sheet = sheetOf (registersWith (addressOf b x y) (r .shift) m) d p;
       busy = time + span;
-      half = x .panel .half;
+      half = z .panel .half;
       times = t;
-      last = x .panel .last;
+      last = z .panel .last;
     })
-    (x .answer) (x .byte) (x .used))
+    (z .answer) (z .byte) (z .used))
     (w t d p)
-    ∙ ap (λ (x : Registers). recorded (done time (sheetOf x d p) span (panelOf t k d p)) say.Taken byte used) (registers-back r b n m e f g)
+    ∙ ap (λ (z : Registers). recorded (done time (sheetOf z d p) span (panelOf t k d p)) say.Taken byte used) (registers-back r s g)

@@ -3,20 +3,25 @@ use Prim.Native.Nat.{ℕ, _%_}
 use mathlib.Core.Path.{_≡_, sym, ap, _∙_}
 use mathlib.Core.Bool.{Bool, true, false}
 use mathlib.Core.List.{List}
+use lib.Dec.{leb}
 use Rattle.laws.specs.Pick.{pick}
 use Rattle.log.specs.Frame.{frameOf}
 use Rattle.chip.specs.Sheet.{sheetOf, readHere}
 use Rattle.chip.specs.declared.registers.Registers.{Registers}
 use Rattle.chip.specs.declared.sheet.Sheet.{Sheet}
 use Rattle.mirror.specs.Panel.{soundPanel}
-use Rattle.mirror.specs.engine.Way.{Way, wayOf}
+use Rattle.mirror.specs.engine.Way.{Way, firstOf, wayOf}
+use Rattle.mirror.specs.engine.Live.{panelOf}
 use Rattle.mirror.specs.Words.{joinedOf, free, holding, done, high}
 use Rattle.mirror.specs.engine.Record.{recorded, went, transferred, answered}
 use Rattle.mirror.specs.Table.{recordOf}
 use Rattle.mirror.specs.declared.answer.Answer.{Answer}
 use Rattle.mirror.specs.declared.answer.Answer.the-variants as say
 use Rattle.mirror.specs.declared.half.Half.the-variants.{Waiting}
+use Rattle.mirror.specs.declared.live.Live.{Live}
 use Rattle.mirror.specs.declared.panel.Panel.{Panel}
+use Rattle.mirror.specs.declared.panel.Times.{Times}
+use Rattle.mirror.specs.declared.record.Recorded.{Recorded}
 
 -- a transfer by its byte and its way, once they are known
 pub by-way : (time : ℕ) (rs reads : Bool) (bus : ℕ) (p : Panel) (byte : ℕ) (v : Way) →
@@ -28,10 +33,11 @@ by-way time rs reads bus p byte v b d =
     ap (λ x. went x time rs reads bus byte p) d ∙
     ap (λ y. went (wayOf (p .sheet .registers .eight) (p .half) (free time p) rs reads y) time rs reads bus y p) b
 
--- equal ways come to equal answers
-pub went-as : (time : ℕ) (rs reads : Bool) (bus byte : ℕ) (p : Panel) (v w : Way) → v ≡ w →
-    went v time rs reads bus byte p ≡ went w time rs reads bus byte p
-went-as time rs reads bus byte p v w e = ap (λ x. went x time rs reads bus byte p) e
+-- a first half by its way, once that is known
+pub first-as : (k : Live) (d p : List ℕ) (t : Times) (time : ℕ) (rs reads : Bool) (bus byte : ℕ) {r : Recorded} (v : Way) →
+    v ≡ firstOf (leb (k .busy) time) rs reads → r ≡ went v time rs reads bus byte (panelOf t k d p) →
+    r ≡ went (firstOf (leb (k .busy) time) rs reads) time rs reads bus byte (panelOf t k d p)
+first-as k d p t time rs reads bus byte v e h = h ∙ ap (λ x. went x time rs reads bus byte (panelOf t k d p)) e
 
 -- equal bytes, and equal sheets, come to equal answers
 pub held-as : (time : ℕ) (rs reads : Bool) (p : Panel) (b c : ℕ) → b ≡ c →

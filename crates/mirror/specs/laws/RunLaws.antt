@@ -16,32 +16,42 @@ use Rattle.log.specs.laws.FramesLaws.{frames-cut, tail-cut, front-next}
 use Rattle.log.specs.declared.frame.Frame.{Frame}
 use Rattle.log.specs.declared.frame.Frame.the-variants as frame
 use Rattle.chip.specs.Sheet.{freshSheet}
+use Rattle.mirror.specs.Answer.{numberOf}
 use Rattle.mirror.specs.engine.Way.{Way, wayOf}
 use Rattle.mirror.specs.Words.{joinedOf, free, done}
 use Rattle.mirror.specs.engine.Record.{recorded, went, transferred, answered}
 use Rattle.mirror.specs.laws.TableLaws.{answered-row}
 use Rattle.mirror.specs.Run.{counted, advanced, onward}
 use Rattle.mirror.specs.engine.Reading.{consumedOf}
+use Rattle.mirror.specs.declared.answer.Answer.{Answer}
 use Rattle.mirror.specs.declared.answer.Answer.the-variants as say
 use Rattle.mirror.specs.declared.panel.Panel.{Panel}
 use Rattle.mirror.specs.declared.record.Recorded.{Recorded}
 use Rattle.mirror.specs.declared.totals.Totals.{Totals}
 
--- every way of a transfer uses its 14 bytes
-went-used : (v : Way) (time : ℕ) (rs reads : Bool) (bus byte : ℕ) (p : Panel) → went v time rs reads bus byte p .used ≡ 14
-went-used Way.Torn time rs reads bus byte p = refl
-went-used Way.Ignored time rs reads bus byte p = refl
-went-used Way.Missed time rs reads bus byte p = refl
-went-used Way.Nothing time rs reads bus byte p = refl
-went-used Way.HoldStatus time rs reads bus byte p = refl
-went-used Way.HoldRead time rs reads bus byte p = refl
-went-used Way.HoldWrite time rs reads bus byte p = refl
-went-used Way.Status time rs reads bus byte p = refl
-went-used Way.StatusEnd time rs reads bus byte p = refl
-went-used Way.Read time rs reads bus byte p = refl
-went-used Way.ReadEnd time rs reads bus byte p = refl
-went-used Way.Write time rs reads bus byte p = refl
-went-used Way.Obey time rs reads bus byte p = refl
+-- whether an answer is one of 0 to 7, which are counted
+abbrev pub Counted : Answer → Type 0
+Counted a = ltb (numberOf a) 8 ≡ true
+
+-- every way of a transfer uses its 14 bytes, and its answer is counted
+pub record Settled (r : Recorded) : Type 0 where
+  pub used : r .used ≡ 14
+  pub counts : Counted (r .answer)
+
+pub went-settled : (v : Way) (time : ℕ) (rs reads : Bool) (bus byte : ℕ) (p : Panel) → Settled (went v time rs reads bus byte p)
+went-settled Way.Torn time rs reads bus byte p = record { used = refl; counts = refl }
+went-settled Way.Ignored time rs reads bus byte p = record { used = refl; counts = refl }
+went-settled Way.Missed time rs reads bus byte p = record { used = refl; counts = refl }
+went-settled Way.Nothing time rs reads bus byte p = record { used = refl; counts = refl }
+went-settled Way.HoldStatus time rs reads bus byte p = record { used = refl; counts = refl }
+went-settled Way.HoldRead time rs reads bus byte p = record { used = refl; counts = refl }
+went-settled Way.HoldWrite time rs reads bus byte p = record { used = refl; counts = refl }
+went-settled Way.Status time rs reads bus byte p = record { used = refl; counts = refl }
+went-settled Way.StatusEnd time rs reads bus byte p = record { used = refl; counts = refl }
+went-settled Way.Read time rs reads bus byte p = record { used = refl; counts = refl }
+went-settled Way.ReadEnd time rs reads bus byte p = record { used = refl; counts = refl }
+went-settled Way.Write time rs reads bus byte p = record { used = refl; counts = refl }
+went-settled Way.Obey time rs reads bus byte p = record { used = refl; counts = refl }
 
 -- the bytes used are the frame's
 pub answered-used : (f : Frame) (p : Panel) → answered f p .used ≡ sizeOf f
@@ -58,8 +68,8 @@ answered-used (frame.Transfer t rs reads bus) p = by (ltb t (p .last))
     by : (b : Bool) → pick b (recorded p say.Back 0 14) (transferred t rs reads bus p) .used ≡ 14
     by true = refl
     by false =
-        went-used (wayOf (p .sheet .registers .eight) (p .half) (free t p) rs reads (joinedOf (p .sheet .registers .eight) (p .half) bus)) t rs reads bus
-        (joinedOf (p .sheet .registers .eight) (p .half) bus) p
+        let byte = joinedOf (p .sheet .registers .eight) (p .half) bus in
+        went-settled (wayOf (p .sheet .registers .eight) (p .half) (free t p) rs reads byte) t rs reads bus byte p .used
 
 -- an answer that used nothing stands at the cut, and leaves all as it was
 pub record Stops (t : Totals) (s : List ℕ) (r : Recorded) : Type 0 where

@@ -1,10 +1,9 @@
 use denote.Ref.{now}
 use mathlib.Core.Path.{_∙_}
 use mathlib.Core.List.{[]}
-use lib.Dec.{leb}
-use Rattle.mirror.specs.engine.Way.{Way, firstOf}
+use Rattle.mirror.specs.engine.Way.{Way}
 use Rattle.mirror.specs.engine.Live.{panelOf}
-use Rattle.mirror.specs.laws.RecordLaws.{went-as, held-as, read-as}
+use Rattle.mirror.specs.laws.RecordLaws.{first-as, held-as, read-as}
 use borrow.Author.Needs.{needs}
 use Rattle.mirror.proofs.live.Live.first.Statement.{statement}
 use Rattle.mirror.proofs.live.Live.first.Tie as tie
@@ -25,9 +24,8 @@ returns : tie.Need-returns
 returns c t byte =
     let a = c .before .before .before .before .before .before .before .args in
     let q = panelOf t (a .self) (now (a .display)) (now (a .pattern)) in
-    let w = firstOf (leb (a .self .busy) (a .time)) (a .rs) (a .«rw») in
-    c .offer .ensures _ _ _ ∙ held-as _ _ _ q _ _ (read-as _ _ _ _ _ (c .before .here .ensures) (c .before .before .registers .ensures))
-    ∙ went-as _ _ _ _ _ q Way.HoldRead w (rw (c .before .before .before .before .before .before .if1 .taken, c .before .before .before .before .before .if2 .taken, ← c .before .before .before .before .free .ensures, c .before .before .before .if3 .taken))
+    first-as (a .self) (now (a .display)) (now (a .pattern)) _ _ _ _ _ _ Way.HoldRead (rw (c .before .before .before .before .before .before .if1 .taken, c .before .before .before .before .before .if2 .taken, ← c .before .before .before .before .free .ensures, c .before .before .before .if3 .taken))
+    (c .offer .ensures _ _ _ ∙ held-as _ _ _ q _ _ (read-as _ _ _ _ _ (c .before .here .ensures) (c .before .before .registers .ensures)))
 
 miss-requires : tie.Need-miss-requires
 miss-requires c κs = search needs
@@ -35,9 +33,7 @@ miss-requires c κs = search needs
 returns-2 : tie.Need-returns-2
 returns-2 c t byte =
     let a = c .before .before .before .before .before .args in
-    let q = panelOf t (a .self) (now (a .display)) (now (a .pattern)) in
-    let w = firstOf (leb (a .self .busy) (a .time)) (a .rs) (a .«rw») in
-    c .miss .ensures _ _ _ ∙ went-as _ _ _ _ _ q Way.Missed w (rw (c .before .before .before .before .if1 .taken, c .before .before .before .if2 .taken, ← c .before .before .free .ensures, c .before .if3 .left))
+    first-as (a .self) (now (a .display)) (now (a .pattern)) _ _ _ _ _ _ Way.Missed (rw (c .before .before .before .before .if1 .taken, c .before .before .before .if2 .taken, ← c .before .before .free .ensures, c .before .if3 .left)) (c .miss .ensures _ _ _)
 
 status-requires : tie.Need-status-requires
 status-requires c κs = search needs
@@ -49,9 +45,8 @@ returns-3 : tie.Need-returns-3
 returns-3 c t byte =
     let a = c .before .before .before .before .args in
     let q = panelOf t (a .self) (now (a .display)) (now (a .pattern)) in
-    let w = firstOf (leb (a .self .busy) (a .time)) (a .rs) (a .«rw») in
-    c .offer2 .ensures _ _ _ ∙ held-as _ _ _ q _ _ (c .before .status .ensures t [] [])
-    ∙ went-as _ _ _ _ _ q Way.HoldStatus w (rw (c .before .before .before .if1 .taken, c .before .before .if2 .left))
+    first-as (a .self) (now (a .display)) (now (a .pattern)) _ _ _ _ _ _ Way.HoldStatus (rw (c .before .before .before .if1 .taken, c .before .before .if2 .left))
+    (c .offer2 .ensures _ _ _ ∙ held-as _ _ _ q _ _ (c .before .status .ensures t [] []))
 
 free-requires-2 : tie.Need-free-requires-2
 free-requires-2 c κs = search needs
@@ -62,9 +57,7 @@ wait-requires c κs = search needs
 returns-4 : tie.Need-returns-4
 returns-4 c t byte =
     let a = c .before .before .before .before .args in
-    let q = panelOf t (a .self) (now (a .display)) (now (a .pattern)) in
-    let w = firstOf (leb (a .self .busy) (a .time)) (a .rs) (a .«rw») in
-    c .wait .ensures _ _ _ ∙ went-as _ _ _ _ _ q Way.HoldWrite w (rw (c .before .before .before .if1 .left, ← c .before .before .free2 .ensures, c .before .if4 .taken))
+    first-as (a .self) (now (a .display)) (now (a .pattern)) _ _ _ _ _ _ Way.HoldWrite (rw (c .before .before .before .if1 .left, ← c .before .before .free2 .ensures, c .before .if4 .taken)) (c .wait .ensures _ _ _)
 
 miss-requires-2 : tie.Need-miss-requires-2
 miss-requires-2 c κs = search needs
@@ -72,9 +65,7 @@ miss-requires-2 c κs = search needs
 returns-5 : tie.Need-returns-5
 returns-5 c t byte =
     let a = c .before .before .before .before .args in
-    let q = panelOf t (a .self) (now (a .display)) (now (a .pattern)) in
-    let w = firstOf (leb (a .self .busy) (a .time)) (a .rs) (a .«rw») in
-    c .miss2 .ensures _ _ _ ∙ went-as _ _ _ _ _ q Way.Missed w (rw (c .before .before .before .if1 .left, ← c .before .before .free2 .ensures, c .before .if4 .left))
+    first-as (a .self) (now (a .display)) (now (a .pattern)) _ _ _ _ _ _ Way.Missed (rw (c .before .before .before .if1 .left, ← c .before .before .free2 .ensures, c .before .if4 .left)) (c .miss2 .ensures _ _ _)
 
 pub first-spec : {M : Type 1} → statement M
 first-spec =

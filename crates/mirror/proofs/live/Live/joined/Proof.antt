@@ -3,7 +3,7 @@ use Rattle.mirror.proofs.live.Live.joined.Statement.{statement}
 use Rattle.mirror.proofs.live.Live.joined.Tie as tie
 
 returns : tie.Need-returns
-returns c = search needs
+returns c = rw (c .if1 .taken)
 
 mul-result : tie.Need-mul-result
 mul-result c = search needs

@@ -7,8 +7,11 @@ use Rattle.mirror.proofs.live.Live.of.Tie as tie
 patterned-requires : tie.Need-patterned-requires
 patterned-requires c κs = search needs
 
-place-requires : tie.Need-place-requires
-place-requires c κs = search needs
+display-part-requires : tie.Need-display-part-requires
+display-part-requires c κs = search needs
+
+pattern-part-requires : tie.Need-pattern-part-requires
+pattern-part-requires c κs = search needs
 
 modes-of-requires : tie.Need-modes-of-requires
 modes-of-requires c κs = search needs
@@ -23,20 +26,21 @@ enum-known-half-2 : tie.Need-enum-known-half-2
 enum-known-half-2 c = search needs
 
 returns : tie.Need-returns
-returns c = opened (c .before .before .before .before .before .before .before .before .args .panel) _ _ _ Empty (c .before .before .before .before .before .patterned .ensures) (c .before .before .before .before .place .ensures) (c .before .before .before .modes-of .ensures) (c .before .enum-told .given .1)
+returns c = opened (c .before .before .before .before .before .before .before .before .before .before .before .args .panel) Empty (record { which = c .before .before .before .before .before .before .before .before .patterned .ensures; display = c .before .before .before .before .before .before .before .display-part .ensures; pattern = c .before .before .before .before .before .before .pattern-part .ensures }) (c .before .before .before .before .before .modes-of .ensures) (c .before .before .before .enum-told .given .1)
 
 returns-2 : tie.Need-returns-2
-returns-2 c = opened (c .before .before .before .before .before .before .before .before .before .args .panel) _ _ _ (Ignored _ _) (c .before .before .before .before .before .before .patterned .ensures) (c .before .before .before .before .before .place .ensures) (c .before .before .before .before .modes-of .ensures) (c .before .before .half .given .1)
+returns-2 c = opened (c .before .before .before .before .before .before .before .before .before .before .before .before .args .panel) (Ignored _ _) (record { which = c .before .before .before .before .before .before .before .before .before .patterned .ensures; display = c .before .before .before .before .before .before .before .before .display-part .ensures; pattern = c .before .before .before .before .before .before .before .pattern-part .ensures }) (c .before .before .before .before .before .before .modes-of .ensures) (c .before .before .before .before .half .given .1)
 
 returns-3 : tie.Need-returns-3
-returns-3 c = opened (c .before .before .before .before .before .before .before .before .before .args .panel) _ _ _ (Waiting _ _ _) (c .before .before .before .before .before .before .patterned .ensures) (c .before .before .before .before .before .place .ensures) (c .before .before .before .before .modes-of .ensures) (c .before .before .half2 .given .1)
+returns-3 c = opened (c .before .before .before .before .before .before .before .before .before .before .before .before .args .panel) (Waiting _ _ _) (record { which = c .before .before .before .before .before .before .before .before .before .patterned .ensures; display = c .before .before .before .before .before .before .before .before .display-part .ensures; pattern = c .before .before .before .before .before .before .before .pattern-part .ensures }) (c .before .before .before .before .before .before .modes-of .ensures) (c .before .before .before .before .half2 .given .1)
 
 pub of-spec : {M : Type 1} → statement M
 of-spec =
     tie.close
     (tie.spec
     patterned-requires
-    place-requires
+    display-part-requires
+    pattern-part-requires
     modes-of-requires
     enum-told
     enum-known-half

@@ -2,7 +2,7 @@ use mathlib.Core.Path.{ap, _∙_}
 use native.Mathlib.Omega.{arith}
 use Rattle.chip.specs.Address.{addressNumber}
 use Rattle.chip.specs.laws.StepLaws.{number-small}
-use Rattle.mirror.specs.engine.Flat.{addressOf}
+use Rattle.mirror.specs.engine.Live.{addressAt}
 use borrow.Author.Needs.{needs}
 use Rattle.mirror.proofs.live.Live.status.Statement.{statement}
 use Rattle.mirror.proofs.live.Live.status.Tie as tie
@@ -18,8 +18,7 @@ free-requires c κs = search needs
 
 add-result : tie.Need-add-result
 add-result c =
-    let k = c .before .before .before .before .args .self in
-    omega (arith, c .before .before .number .ensures ∙ ap addressNumber (c .before .before .before .address .ensures), number-small (addressOf (k .patterned) (k .place)))
+    omega (arith, c .before .before .number .ensures ∙ ap addressNumber (c .before .before .before .address .ensures), number-small (addressAt (c .before .before .before .before .args .self)))
 
 returns : tie.Need-returns
 returns c t d p = rw (c .before .before .number .ensures, c .before .before .before .address .ensures, ← c .before .free .ensures, c .if1 .taken)
