@@ -1,10 +1,8 @@
 pub mod Again
-pub mod AgainState
 pub mod Columns
-pub mod Entry
-pub mod Account
 pub mod DataWrites
 pub mod Lines
 pub mod Report
+pub mod engine
 pub mod laws
 pub mod cases

@@ -1,7 +1,7 @@
 pub mod AgainStateLaws
 pub mod RepeatsLaws
 pub mod AgainLaws
-pub mod EntryLaws
+pub mod PlacedLaws
 pub mod AccountLaws
 pub mod StandsLaws
 pub mod DataWritesLaws

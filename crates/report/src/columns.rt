@@ -3,10 +3,10 @@ use crate::page::PAGE;
 use crate::page::put;
 use crate::page::put_clock;
 use crate::page::put_number;
-use account::entry::Line;
-use account::entry::Meaning;
-use account::entry::Shown;
-use account::entry::What;
+use account::columns::Line;
+use account::columns::Meaning;
+use account::columns::Shown;
+use account::columns::What;
 use log::flaw::Flaw;
 use mirror::answer::Answer;
 

@@ -1,0 +1,3 @@
+pub mod AgainState
+pub mod Placed
+pub mod Account
