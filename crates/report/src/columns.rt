@@ -1,12 +1,12 @@
 // A line of the report: docs/REPORT.md has its columns.
-use crate::page::PAGE;
-use crate::page::put;
-use crate::page::put_clock;
-use crate::page::put_number;
+use crate::clock::put_clock;
+use crate::clock::put_number;
 use account::entry::Line;
 use account::entry::Meaning;
 use account::entry::Shown;
 use account::entry::What;
+use desk::page::PAGE;
+use desk::page::put;
 use log::flaw::Flaw;
 use mirror::answer::Answer;
 

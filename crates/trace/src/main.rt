@@ -1,6 +1,5 @@
 // Prints everything that a test or a doubtful colleague wants to see of a log: docs/TRACE.md has the print.
 mod answers;
-mod lines;
 mod numbers;
 mod panel_file;
 mod records;

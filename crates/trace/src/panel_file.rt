@@ -17,6 +17,7 @@ use mirror::panel::Times;
 
 pub const PANEL_SIZE: usize = 84;
 
+// The numbers of a file are read as those of a log are; log's own functions ask for bytes that are there, so they are not public.
 fn wide(x: u8) -> u64
     ensures { λ r. ⌜ Byte x r ⌝ }
 {
