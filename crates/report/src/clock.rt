@@ -4,11 +4,21 @@ ghost use Rattle.report.specs.Clock.{Clock, Decimal, Hours, PutsSome, tw
 use desk::page::PAGE;
 use desk::page::put;
 
+// Times are in millionths of a second.
+const SECOND: u64 = 1000000;
+
+const MINUTE: u64 = 60 * SECOND;
+
+const HOUR: u64 = 60 * MINUTE;
+
+// The most digits that a number has.
+const DIGITS: usize = 20;
+
 // A number in decimal.
 pub(crate) fn put_number(page: &mut [u8; PAGE], at: usize, n: u64) -> usize
     ensures { λ r. ⌜ PutsSome (Decimal n) (now (page .entry)) at (now (page .exit)) r ⌝ }
 {
-    let mut digits = [0u8; 20];
+    let mut digits = [0u8; DIGITS];
     let k = io::decimal(n, &mut digits);
     put(page, at, &digits[..k])
 }
@@ -37,9 +47,9 @@ fn put_within(page: &mut [u8; PAGE], at: usize, time: u64) -> usize
     ensures { λ r. ⌜ Puts (withinHour time) (now (page .entry)) at (now (page .exit)) r ⌝ }
 {
     let a = put(page, at, b":");
-    let b = put_two(page, a, time / 60000000 % 60);
+    let b = put_two(page, a, time / MINUTE % 60);
     let c = put(page, b, b":");
-    let d = put_two(page, c, time / 1000000 % 60);
+    let d = put_two(page, c, time / SECOND % 60);
     let e = put(page, d, b".");
     let f = put_two(page, e, time / 10000);
     let g = put_two(page, f, time / 100);
@@ -50,6 +60,6 @@ fn put_within(page: &mut [u8; PAGE], at: usize, time: u64) -> usize
 pub(crate) fn put_clock(page: &mut [u8; PAGE], at: usize, time: u64) -> usize
     ensures { λ r. ⌜ PutsSome (Clock time) (now (page .entry)) at (now (page .exit)) r ⌝ }
 {
-    let a = put_hours(page, at, time / 3600000000);
+    let a = put_hours(page, at, time / HOUR);
     put_within(page, a, time)
 }

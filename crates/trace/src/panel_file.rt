@@ -17,7 +17,7 @@ use mirror::panel::Times;
 
 pub const PANEL_SIZE: usize = 84;
 
-// The numbers of a file are read as those of a log are; log's own functions ask for bytes that are there, so they are not public.
+// Numbers as a log has them. log's own readers of these ask that the bytes be there, so they cannot be public.
 fn wide(x: u8) -> u64
     ensures { λ r. ⌜ Byte x r ⌝ }
 {

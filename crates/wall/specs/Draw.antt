@@ -22,9 +22,13 @@ eightOf f r x =
     128 * one (litAt f r x) + 64 * one (litAt f r (x + 1)) + 32 * one (litAt f r (x + 2)) + 16 * one (litAt f r (x + 3))
     + 8 * one (litAt f r (x + 4)) + 4 * one (litAt f r (x + 5)) + 2 * one (litAt f r (x + 6)) + one (litAt f r (x + 7))
 
--- the bitmap: by rows, ten bytes a row
+-- a row of the bitmap has a byte for each eight columns
+abbrev pub rowSize : ℕ
+rowSize = glass .cols / 8
+
+-- the bitmap: by rows
 abbrev pub bitmapOf : List ℕ → List ℕ
-bitmapOf f = table (λ i. eightOf f (i / 10) (i % 10 * 8)) 80
+bitmapOf f = table (λ i. eightOf f (i / rowSize) (i % rowSize * 8)) (glass .rows * rowSize)
 
 -- a dot: # where it is lit, and a point where it is not
 abbrev pub markOf : Bool → ℕ

@@ -1,15 +1,16 @@
 use Prim.Native.Nat.{_-_, _≤_}
 use mathlib.Core.Path.{_≡_}
 use lib.ListN.{length}
+use Rattle.picture.specs.Frame.{glass}
 use borrow.Author.Needs.{needs}
 use Rattle.wall.proofs.draw.draw_rows.Statement.{statement}
 use Rattle.wall.proofs.draw.draw_rows.Tie as tie
 
 abbrev Inv-loop : tie.InvT-loop
-Inv-loop frame page₀ end₀ row₀ page end row = (length frame ≡ 80) × (row ≤ 8)
+Inv-loop frame page₀ end₀ row₀ page end row = (length frame ≡ glass .size) × (row ≤ glass .rows)
 
 abbrev μ-loop : tie.MeasureT-loop
-μ-loop frame page₀ end₀ row₀ page end row = 8 - row
+μ-loop frame page₀ end₀ row₀ page end row = glass .rows - row
 
 put-edge-requires : tie.Need-put-edge-requires Inv-loop μ-loop
 put-edge-requires c κs = search needs
