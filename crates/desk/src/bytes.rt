@@ -1,7 +1,7 @@
 // Bytes by value, as many as a file named among the arguments may need, and the reading of such a file.
 ghost use Prim.Native.Nat.{_≤_};
 ghost use lib.ListN.{length};
-ghost use Rattle.desk.specs.Held.{Held};
+ghost use Rattle.desk.specs.Bytes.{HeldIn};
 
 // Above the size of a font, a panel and a frame: a file that fills it is none of them.
 pub const ROOM: usize = 4096;
@@ -21,7 +21,7 @@ struct Filled {
 
 // How many bytes of a buffer are held: `len`, or all where it says more.
 pub fn held(bytes: &[u8], len: usize) -> usize
-    ensures { λ r. ⌜ Held (now (bytes .entry)) len r ⌝ }
+    ensures { λ r. ⌜ HeldIn (now (bytes .entry)) len r ⌝ }
 {
     if len < bytes.len() { len } else { bytes.len() }
 }

@@ -2,7 +2,7 @@
 ghost use Prim.Native.Nat.{_≤_};
 ghost use mathlib.Core.Path.{_≡_};
 ghost use Rattle.desk.specs.Number.{decimalOf};
-ghost use Rattle.desk.specs.laws.NumberLaws.{thenOf};
+ghost use Rattle.desk.specs.engine.Number.{thenOf};
 
 // A number; not ok where there is none, and then its value is 0.
 pub struct Number {

@@ -1,12 +1,12 @@
 // A line of the report: docs/REPORT.md has its columns.
-use crate::page::PAGE;
-use crate::page::put;
-use crate::page::put_clock;
-use crate::page::put_number;
+use crate::clock::put_clock;
+use crate::clock::put_number;
 use account::columns::Line;
 use account::columns::Meaning;
 use account::columns::Shown;
 use account::columns::What;
+use desk::page::PAGE;
+use desk::page::put;
 use log::flaw::Flaw;
 use mirror::answer::Answer;
 

@@ -1,9 +1,9 @@
 // The summary: the counts of the run, and what was written again.
+use crate::clock::put_number;
 use crate::columns::put_time;
-use crate::page::PAGE;
-use crate::page::put;
-use crate::page::put_number;
 use account::again::Found;
+use desk::page::PAGE;
+use desk::page::put;
 use mirror::stream::Run;
 
 fn put_count(page: &mut [u8; PAGE], at: usize, name: &[u8], n: u64) -> usize {

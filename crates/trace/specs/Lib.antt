@@ -1,3 +1,3 @@
 pub mod PanelFile
-pub mod Records
+pub mod engine
 pub mod laws

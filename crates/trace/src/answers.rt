@@ -1,8 +1,8 @@
 // A line for each record of standard input, as its answer comes out of the stream.
-use crate::lines::LINES;
-use crate::lines::put_line;
-use crate::lines::write_lines;
 use desk::input::Input;
+use desk::page::PAGE;
+use desk::page::put;
+use desk::page::write_out;
 use mirror::stream::Reply;
 use mirror::stream::Run;
 use mirror::stream::Stream;
@@ -15,14 +15,23 @@ pub struct Done {
     pub failed: bool,
 }
 
+// The line of a record: the number of its answer, and its byte.
+pub(crate) fn put_line(page: &mut [u8; PAGE], at: usize, number: u8, byte: u8) -> usize {
+    let digits = text::hex(byte);
+    put(
+        page,
+        at,
+        &[text::digit(number), b' ', digits[0], digits[1], b'\n'],
+    )
+}
+
 // Every record that a block makes whole.
 fn answer_block(start: Stream, block: &[u8]) -> Stream {
     let mut stream = start;
-    let mut lines = [0u8; LINES];
+    let mut page = [0u8; PAGE];
     let mut end: usize = 0;
     let mut at: usize = 0;
-    let mut turns = u64::MAX;
-    while turns > 0 {
+    for _ in 0..u64::MAX {
         let next = stream.next(&block[at..]);
         let after = next.stream;
         let reply = next.reply;
@@ -31,10 +40,9 @@ fn answer_block(start: Stream, block: &[u8]) -> Stream {
         let Reply::Answered { answer, byte } = reply else {
             break;
         };
-        end = put_line(&mut lines, end, answer.number(), byte);
-        turns -= 1;
+        end = put_line(&mut page, end, answer.number(), byte);
     }
-    write_lines(&lines, end);
+    write_out(&page, end);
     stream
 }
 

@@ -1,6 +1,5 @@
 // Prints everything that a test or a doubtful colleague wants to see of a log: docs/TRACE.md has the print.
 mod answers;
-mod lines;
 mod numbers;
 mod panel_file;
 mod records;
@@ -18,21 +17,20 @@ use desk::input::BLOCK;
 use desk::print::complain;
 use mirror::panel::Panel;
 use mirror::stream::Stream;
+use numbers::MOST;
 use numbers::size_at;
 use numbers::times_at;
 use panel_file::PANEL_SIZE;
 use panel_file::fits;
 use panel_file::panel_of;
 use picture::pattern::FONT_SIZE;
+use picture::pattern::TALL;
 use records::record_all;
 use show::show_difference;
 use show::show_end;
 use show::show_painting;
 use show::show_run;
 use std::num::wrapping_add_usize;
-
-// The largest frame to compare.
-const MOST: usize = 200;
 
 // The groups of arguments.
 const FONT: usize = 0;
@@ -62,15 +60,19 @@ struct Lent {
     b: Bytes,
 }
 
+// The shape of code 20h: the font begins with code 10h.
+const BLANK: usize = 16;
+
 // The trial font: byte i is (37 i + 11 (i div 8) + 5) mod 256, but the eight bytes of code 20h are E0h, blank in the low
 // five bits.
 fn trial_byte(i: usize) -> u8
     requires { ⌜ i < 1920 ⌝ }
 {
-    if i / 8 == 16 {
+    let shape = i / TALL;
+    if shape == BLANK {
         return 0xE0;
     }
-    ((37 * i + 11 * (i / 8) + 5) % 256) as u8
+    ((37 * i + 11 * shape + 5) % 256) as u8
 }
 
 fn trial_font() -> Bytes {
@@ -149,7 +151,7 @@ fn frame_at(place: usize) -> Bytes {
     if !file.ok {
         return file;
     }
-    if file.len <= MOST {
+    if file.len as u64 <= MOST {
         return file;
     }
     complain(b"trace", b"a frame to compare has at most 200 bytes");

@@ -9,6 +9,12 @@ use mirror::panel::Times;
 use picture::frame::FRAME_SIZE;
 use std::num::wrapping_add_usize;
 
+// The longest time.
+const LONGEST: u64 = 65535;
+
+// The largest frame, to paint or to compare.
+pub(crate) const MOST: u64 = 200;
+
 pub struct Timed {
     pub ok: bool,
     pub times: Times,
@@ -27,9 +33,9 @@ pub(crate) fn times_at(place: usize) -> Timed {
             times: usual,
         };
     }
-    let reset = number_at(place, 65535);
-    let long = number_at(wrapping_add_usize(place, 1), 65535);
-    let short = number_at(wrapping_add_usize(place, 2), 65535);
+    let reset = number_at(place, LONGEST);
+    let long = number_at(wrapping_add_usize(place, 1), LONGEST);
+    let short = number_at(wrapping_add_usize(place, 2), LONGEST);
     if reset.ok & long.ok & short.ok {
         return Timed {
             ok: true,
@@ -55,7 +61,7 @@ pub(crate) fn size_at(place: usize) -> Number {
             value: FRAME_SIZE as u64,
         };
     }
-    let size = number_at(place, 200);
+    let size = number_at(place, MOST);
     if !size.ok {
         complain(b"trace", b"frame takes a number of at most 200");
     }

@@ -17,6 +17,7 @@ use mirror::panel::Times;
 
 pub const PANEL_SIZE: usize = 84;
 
+// Numbers as a log has them. log's own readers of these ask that the bytes be there, so they cannot be public.
 fn wide(x: u8) -> u64
     ensures { λ r. ⌜ Byte x r ⌝ }
 {

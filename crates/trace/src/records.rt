@@ -2,13 +2,13 @@
 ghost use Prim.Native.Nat.{_≤_};
 ghost use mathlib.Core.Path.{_≡_};
 ghost use lib.ListN.{length};
-ghost use Rattle.trace.specs.Records.{Moved, afterOf, countedOf, overOf, runIn, startedOf};
+ghost use Rattle.trace.specs.engine.Records.{Moved, tallyAfter, countsWith, tallyOver, tallyRun, tallyStart};
 use crate::answers::Done;
 use crate::answers::answer_all;
-use crate::lines::LINES;
-use crate::lines::put_line;
-use crate::lines::write_lines;
+use crate::answers::put_line;
 use desk::input::Input;
+use desk::page::PAGE;
+use desk::page::write_out;
 use log::front::wants_more;
 use mirror::answer::Answer;
 use mirror::count::raise;
@@ -29,7 +29,7 @@ struct Tally {
 
 // One more of an answer's number.
 fn counted(counts: [u64; 8], number: u8) -> [u64; 8]
-    ensures { λ r. ⌜ r ≡ countedOf counts number ⌝ }
+    ensures { λ r. ⌜ r ≡ countsWith counts number ⌝ }
 {
     let n = number as usize;
     if 8 <= n {
@@ -42,7 +42,7 @@ fn counted(counts: [u64; 8], number: u8) -> [u64; 8]
 
 impl Tally {
     fn start(panel: Panel) -> Tally
-        ensures { λ r. ⌜ r ≡ startedOf panel ⌝ }
+        ensures { λ r. ⌜ r ≡ tallyStart panel ⌝ }
     {
         Tally {
             panel,
@@ -55,7 +55,7 @@ impl Tally {
 
     // After a record.
     fn after(self, r: Recorded) -> Tally
-        ensures { λ t. ⌜ t ≡ afterOf self r ⌝ }
+        ensures { λ t. ⌜ t ≡ tallyAfter self r ⌝ }
     {
         let panel = r.panel;
         let answer = r.answer;
@@ -72,7 +72,7 @@ impl Tally {
 
     // After bytes that hold no record: the number of the answer to them ends the reading.
     fn over(self, tail: &[u8]) -> Tally
-        ensures { λ t. ⌜ t ≡ overOf self (now (tail .entry)) ⌝ }
+        ensures { λ t. ⌜ t ≡ tallyOver self (now (tail .entry)) ⌝ }
     {
         let panel = self.panel;
         let r = panel.record(tail);
@@ -85,7 +85,7 @@ impl Tally {
 
     // The run, once nothing more is read.
     fn run(self) -> Run
-        ensures { λ r. ⌜ r ≡ runIn self ⌝ }
+        ensures { λ r. ⌜ r ≡ tallyRun self ⌝ }
     {
         let panel = self.panel;
         let counts = self.counts;
@@ -104,23 +104,21 @@ fn record_block(start: Tally, block: &[u8]) -> Tally
     ensures { λ r. ⌜ r .used ≤ length (now (block .entry)) ⌝ }
 {
     let mut tally = start;
-    let mut lines = [0u8; LINES];
+    let mut page = [0u8; PAGE];
     let mut end: usize = 0;
     let mut at: usize = 0;
-    let mut turns = u64::MAX;
-    while turns > 0 {
+    for _ in 0..u64::MAX {
         let panel = tally.panel;
         let r = panel.record(&block[at..]);
         if r.used == 0 {
             break;
         }
         let answer = r.answer;
-        end = put_line(&mut lines, end, answer.number(), r.byte);
+        end = put_line(&mut page, end, answer.number(), r.byte);
         tally = tally.after(r);
         at += r.used;
-        turns -= 1;
     }
-    write_lines(&lines, end);
+    write_out(&page, end);
     if wants_more(&block[at..]) {
         return Tally { used: at, ..tally };
     }

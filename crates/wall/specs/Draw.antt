@@ -1,27 +1,20 @@
 -- The drawing and the bitmap, made of the dots of a frame (docs/WALL.md, "The print").
-use Prim.Native.Nat.{ℕ, zero, suc, _+_, _*_, _/_, _%_, _<_}
-use mathlib.Core.Path.{_≡_}
+use Prim.Native.Nat.{ℕ, zero, suc, _+_, _*_, _/_, _%_}
 use mathlib.Core.Bool.{Bool, _&&_}
 use mathlib.Core.List.{List, [], _∷_, _++_}
-use lib.ListN.{take, replicate}
+use lib.ListN.{replicate}
 use Rattle.laws.specs.Pick.{pick}
 use Rattle.dots.specs.Bit.{one}
 use Rattle.dots.specs.Table.{table}
-use Rattle.desk.specs.Held.{heldOf}
+use Rattle.desk.specs.Bytes.{fileBytes}
 use Rattle.desk.specs.declared.bytes.Bytes.{Bytes}
 use Rattle.mirror.specs.declared.panel.Panel.{Panel}
 use Rattle.picture.specs.Frame.{glass, litAt}
 use Rattle.picture.specs.Paint.{frameAfter}
-use Rattle.wall.specs.declared.draw.Line.{Line}
 
 -- the picture of a panel, painted on a blank frame: no dot is lit where the painter refuses
 abbrev pub pictureOf : Panel → Bytes → Bool → List ℕ
-pictureOf panel font dark = frameAfter panel (heldOf font) dark (replicate (glass .size) 0)
-
--- dot (r, x) as a bit
-pub record Bit (f : List ℕ) (r x bit : ℕ) : Type 0 where
-  pub is : bit ≡ one (litAt f r x)
-  pub small : bit < 2
+pictureOf panel font dark = frameAfter panel (fileBytes font) dark (replicate (glass .size) 0)
 
 -- eight dots from column x on as one byte, the leftmost in the highest bit
 abbrev pub eightOf : List ℕ → ℕ → ℕ → ℕ
@@ -29,9 +22,13 @@ eightOf f r x =
     128 * one (litAt f r x) + 64 * one (litAt f r (x + 1)) + 32 * one (litAt f r (x + 2)) + 16 * one (litAt f r (x + 3))
     + 8 * one (litAt f r (x + 4)) + 4 * one (litAt f r (x + 5)) + 2 * one (litAt f r (x + 6)) + one (litAt f r (x + 7))
 
--- the bitmap: by rows, ten bytes a row
+-- a row of the bitmap has a byte for each eight columns
+abbrev pub rowSize : ℕ
+rowSize = glass .cols / 8
+
+-- the bitmap: by rows
 abbrev pub bitmapOf : List ℕ → List ℕ
-bitmapOf f = table (λ i. eightOf f (i / 10) (i % 10 * 8)) 80
+bitmapOf f = table (λ i. eightOf f (i / rowSize) (i % rowSize * 8)) (glass .rows * rowSize)
 
 -- a dot: # where it is lit, and a point where it is not
 abbrev pub markOf : Bool → ℕ
@@ -59,7 +56,3 @@ rowBytes f r = barred (strung (λ x. markOf (litAt f r x) ∷ []) (glass .cols))
 -- a row of dots and the one below it
 abbrev pub pairBytes : List ℕ → ℕ → List ℕ
 pairBytes f r = barred (strung (λ x. pairOf (litAt f r x) (litAt f (r + 1) x)) (glass .cols))
-
--- the bytes of a line
-abbrev pub lineBytes : Line → List ℕ
-lineBytes l = take (l .len) (l .bytes)

@@ -1,5 +1,5 @@
 pub mod Text
 pub mod Draw
-pub mod Line
-pub mod laws
 pub mod Watch
+pub mod engine
+pub mod laws

@@ -1,6 +1,6 @@
 -- Which record ends the watch (docs/WALL.md, "The time").
 use Prim.Native.Nat.{ℕ}
-use mathlib.Core.Bool.{Bool, true, false, _&&_}
+use mathlib.Core.Bool.{Bool, false, _&&_}
 use lib.Dec.{ltb}
 use Rattle.mirror.specs.Answer.{numberOf}
 use Rattle.mirror.specs.Answers.{clocked}
@@ -8,13 +8,6 @@ use Rattle.mirror.specs.Stream.{panelIn}
 use Rattle.mirror.specs.declared.stream.Next.{Next}
 use Rattle.mirror.specs.declared.stream.Reply.{Reply}
 use Rattle.mirror.specs.declared.stream.Reply.the-variants.{Answered, More, Cut, Refused}
-
--- a record was answered
-abbrev pub isAnswered : Reply → Bool
-isAnswered (Answered answer byte) = true
-isAnswered More = false
-isAnswered Cut = false
-isAnswered Refused = false
 
 -- answered 0 to 4 or 7, at a later time than the one asked for: 5 and 6 have no say
 abbrev pub clockedAfter : ℕ → ℕ → Reply → Bool

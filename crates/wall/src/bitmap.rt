@@ -1,26 +1,30 @@
 // The dots of a frame as a portable bitmap: a row after the other, eight dots to a byte, the leftmost in the highest bit.
 ghost use Prim.Native.Nat.{_<_};
 ghost use mathlib.Core.Path.{_≡_};
-ghost use Rattle.wall.specs.Draw.{Bit, bitmapOf, eightOf};
+ghost use Rattle.picture.specs.Frame.{glass};
+ghost use Rattle.wall.specs.Draw.{bitmapOf, eightOf};
+ghost use Rattle.wall.specs.engine.Bitmap.{DotBit};
 use desk::print::show;
+use picture::frame::COLUMNS;
 use picture::frame::FRAME_SIZE;
+use picture::frame::ROWS;
 use picture::frame::lit_at;
 
-// A row has 80 dots, and there are 8 of them.
-const ROW_BYTES: usize = 10;
+// Eight dots to a byte.
+const ROW_BYTES: usize = COLUMNS / 8;
 
-const BITMAP_SIZE: usize = 80;
+const BITMAP_SIZE: usize = ROWS * ROW_BYTES;
 
 // A dot as a bit.
 fn bit(frame: [u8; FRAME_SIZE], row: usize, column: usize) -> u8
-    ensures { λ r. ⌜ Bit frame row column r ⌝ }
+    ensures { λ r. ⌜ DotBit frame row column r ⌝ }
 {
     if lit_at(&frame, row, column) { 1 } else { 0 }
 }
 
 // Eight dots from a column on.
 fn eight(frame: [u8; FRAME_SIZE], row: usize, left: usize) -> u8
-    requires { ⌜ left < 80 ⌝ }
+    requires { ⌜ left < glass .cols ⌝ }
     ensures { λ r. ⌜ r ≡ eightOf frame row left ⌝ }
 {
     let a = 128 * bit(frame, row, left) + 64 * bit(frame, row, left + 1);

@@ -1,12 +1,14 @@
-// The dots of a frame, as lines for a terminal.
+// The dots of a frame, as lines for a terminal. Each function that puts some on a page answers where the next byte goes.
 ghost use Prim.Native.Nat.{_<_};
 ghost use mathlib.Core.Path.{_≡_};
-ghost use Rattle.wall.specs.Draw.{lineBytes, markOf, pairBytes, pictureOf, rowBytes};
-ghost use Rattle.wall.specs.Line.{closed, opened, withBlock, withByte, withPair};
+ghost use Rattle.desk.specs.Page.{Puts};
+ghost use Rattle.picture.specs.Frame.{glass};
+ghost use Rattle.wall.specs.Draw.{markOf, pairBytes, pairOf, pictureOf, rowBytes};
 use desk::bytes::Bytes;
 use desk::bytes::held;
-use desk::print::say;
-use desk::print::show;
+use desk::page::PAGE;
+use desk::page::put;
+use desk::page::write_out;
 use mirror::panel::Panel;
 use picture::frame::COLUMNS;
 use picture::frame::FRAME_SIZE;
@@ -14,76 +16,8 @@ use picture::frame::ROWS;
 use picture::frame::lit_at;
 use picture::paint::paint;
 
-// Above the longest line: 80 half blocks of three bytes, two sides and the line's end.
-const LINE_SIZE: usize = 256;
-
-// The first `len` of `bytes`.
-struct Line {
-    bytes: [u8; LINE_SIZE],
-    len: usize,
-}
-
-impl Line {
-    // With one byte more, where there is room.
-    fn with(self, byte: u8) -> Line
-        ensures { λ r. ⌜ r ≡ withByte byte self ⌝ }
-    {
-        let n = self.len;
-        if LINE_SIZE <= n {
-            return self;
-        }
-        let mut bytes = self.bytes;
-        bytes[n] = byte;
-        Line { bytes, len: n + 1 }
-    }
-
-    // With a character of three bytes, E2h and 96h before the last: a block of the terminal.
-    fn with_block(self, last: u8) -> Line
-        ensures { λ r. ⌜ r ≡ withBlock last self ⌝ }
-    {
-        self.with(0xE2).with(0x96).with(last)
-    }
-
-    // With two dots, one above the other.
-    fn with_pair(self, upper: bool, lower: bool) -> Line
-        ensures { λ r. ⌜ r ≡ withPair upper lower self ⌝ }
-    {
-        if upper & lower {
-            return self.with_block(0x88);
-        }
-        if upper {
-            return self.with_block(0x80);
-        }
-        if lower {
-            return self.with_block(0x84);
-        }
-        self.with(b' ')
-    }
-
-    // With its left side alone.
-    fn open() -> Line
-        ensures { λ r. ⌜ r ≡ opened ⌝ }
-    {
-        let empty = Line {
-            bytes: [0; LINE_SIZE],
-            len: 0,
-        };
-        empty.with(b'|')
-    }
-
-    // With its right side and the line's end.
-    fn close(self) -> Line
-        ensures { λ r. ⌜ r ≡ closed self ⌝ }
-    {
-        self.with(b'|').with(b'\n')
-    }
-
-    fn write(self) {
-        let bytes = self.bytes;
-        let n = held(&bytes, self.len);
-        show(&bytes[..n]);
-    }
-}
+// Pairs of rows, one above the other.
+const PAIRS: usize = ROWS / 2;
 
 // The frame of a panel; no dot is lit where the painter refuses.
 pub(crate) fn painted(panel: Panel, font: Bytes, dark: bool) -> [u8; FRAME_SIZE]
@@ -102,48 +36,73 @@ fn mark(lit: bool) -> u8
     if lit { b'#' } else { b'.' }
 }
 
-// A row of dots.
-fn row_line(frame: [u8; FRAME_SIZE], row: usize) -> Line
-    ensures { λ r. ⌜ lineBytes r ≡ rowBytes frame row ⌝ }
+// Two dots, one above the other: a block of the terminal, which has three bytes, or a space.
+fn put_pair(page: &mut [u8; PAGE], at: usize, upper: bool, lower: bool) -> usize
+    ensures { λ r. ⌜ Puts (pairOf upper lower) (now (page .entry)) at (now (page .exit)) r ⌝ }
 {
-    let mut line = Line::open();
-    for column in 0..COLUMNS {
-        line = line.with(mark(lit_at(&frame, row, column)));
+    if upper & lower {
+        return put(page, at, &[0xE2, 0x96, 0x88]);
     }
-    line.close()
+    if upper {
+        return put(page, at, &[0xE2, 0x96, 0x80]);
+    }
+    if lower {
+        return put(page, at, &[0xE2, 0x96, 0x84]);
+    }
+    put(page, at, b" ")
+}
+
+// A row of dots.
+fn put_row(page: &mut [u8; PAGE], at: usize, frame: [u8; FRAME_SIZE], row: usize) -> usize
+    ensures { λ r. ⌜ Puts (rowBytes frame row) (now (page .entry)) at (now (page .exit)) r ⌝ }
+{
+    let mut end = put(page, at, b"|");
+    for column in 0..COLUMNS {
+        end = put(page, end, &[mark(lit_at(&frame, row, column))]);
+    }
+    put(page, end, b"|\n")
 }
 
 // A row of dots and the one below it.
-fn pair_line(frame: [u8; FRAME_SIZE], row: usize) -> Line
-    requires { ⌜ row < 8 ⌝ }
-    ensures { λ r. ⌜ lineBytes r ≡ pairBytes frame row ⌝ }
+fn put_rows(page: &mut [u8; PAGE], at: usize, frame: [u8; FRAME_SIZE], row: usize) -> usize
+    requires { ⌜ row < glass .rows ⌝ }
+    ensures { λ r. ⌜ Puts (pairBytes frame row) (now (page .entry)) at (now (page .exit)) r ⌝ }
 {
-    let mut line = Line::open();
+    let mut end = put(page, at, b"|");
     for column in 0..COLUMNS {
-        line = line.with_pair(lit_at(&frame, row, column), lit_at(&frame, row + 1, column));
+        let upper = lit_at(&frame, row, column);
+        let lower = lit_at(&frame, row + 1, column);
+        end = put_pair(page, end, upper, lower);
     }
-    line.close()
+    put(page, end, b"|\n")
 }
 
-fn draw_edge() {
-    say(b"+--------------------------------------------------------------------------------+");
+fn put_edge(page: &mut [u8; PAGE], at: usize) -> usize {
+    put(
+        page,
+        at,
+        b"+--------------------------------------------------------------------------------+\n",
+    )
 }
 
 // One line for each row of dots.
 pub(crate) fn draw_rows(frame: [u8; FRAME_SIZE]) {
-    draw_edge();
+    let mut page = [0u8; PAGE];
+    let mut end = put_edge(&mut page, 0);
     for row in 0..ROWS {
-        row_line(frame, row).write();
+        end = put_row(&mut page, end, frame, row);
     }
-    draw_edge();
+    end = put_edge(&mut page, end);
+    write_out(&page, end);
 }
 
 // One line for each two rows of dots.
 pub(crate) fn draw_pairs(frame: [u8; FRAME_SIZE]) {
-    draw_edge();
-    pair_line(frame, 0).write();
-    pair_line(frame, 2).write();
-    pair_line(frame, 4).write();
-    pair_line(frame, 6).write();
-    draw_edge();
+    let mut page = [0u8; PAGE];
+    let mut end = put_edge(&mut page, 0);
+    for pair in 0..PAIRS {
+        end = put_rows(&mut page, end, frame, 2 * pair);
+    }
+    end = put_edge(&mut page, end);
+    write_out(&page, end);
 }

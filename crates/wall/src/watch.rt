@@ -1,6 +1,7 @@
 // The log as it comes, up to a time.
 ghost use mathlib.Core.Path.{_≡_};
-ghost use Rattle.wall.specs.Watch.{isAnswered, laterThan};
+ghost use Rattle.wall.specs.Watch.{laterThan};
+ghost use Rattle.wall.specs.engine.Watch.{isAnswered};
 use desk::input::Input;
 use mirror::stream::Next;
 use mirror::stream::Reply;
@@ -52,8 +53,7 @@ fn watch_block(start: Stream, until: u64, block: &[u8]) -> Seen {
     let mut stream = start;
     let mut more = true;
     let mut at: usize = 0;
-    let mut turns = u64::MAX;
-    while turns > 0 {
+    for _ in 0..u64::MAX {
         let next = stream.next(&block[at..]);
         if later(next, until) {
             more = false;
@@ -65,7 +65,6 @@ fn watch_block(start: Stream, until: u64, block: &[u8]) -> Seen {
         if !answered(next) {
             break;
         }
-        turns -= 1;
     }
     Seen {
         stream,

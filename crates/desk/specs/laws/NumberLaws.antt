@@ -11,11 +11,8 @@ use lib.Seq.{drop-cons}
 use borrow.Author.Tests.{lt-ltb, ltb-true, ltb-false, le-ltb}
 use Rattle.laws.specs.Pick.{pick}
 use Rattle.desk.specs.Number.{none, some, isDigit, allDigits, valueAfter, numberAfter, decimalOf}
+use Rattle.desk.specs.engine.Number.{thenOf}
 use Rattle.desk.specs.declared.number.Number.{Number}
-
--- one more digit
-abbrev pub thenOf : ℕ → ℕ → ℕ → Number
-thenOf v b most = pick (isDigit b) (pick (ltb most (10 * v + (b - 48))) none (some (10 * v + (b - 48)))) none
 
 -- digits only add
 grows : (v : ℕ) (s : List ℕ) → v ≤ valueAfter v s

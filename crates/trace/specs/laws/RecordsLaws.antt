@@ -13,11 +13,11 @@ use Rattle.laws.specs.Pick.{pick}
 use Rattle.log.specs.Frame.{cutAt, badAt, isReset, recordSize}
 use Rattle.log.specs.laws.FrontLaws.{uncut-front}
 use Rattle.mirror.specs.Panel.{soundPanel}
-use Rattle.mirror.specs.Table.{isBack, transferFor, numberFor, usedFor}
+use Rattle.mirror.specs.Table.{isBack, transferFor, usedFor}
 use Rattle.mirror.specs.Promise.{Records}
 use Rattle.mirror.specs.declared.panel.Panel.{Panel}
 use Rattle.mirror.specs.declared.record.Recorded.{Recorded}
-use Rattle.trace.specs.Records.{Moved}
+use Rattle.trace.specs.engine.Records.{Moved}
 
 module _ (log : List ℕ) where
   some-or-none : (b : Bool) (n : ℕ) → pick b 0 n ≤ n

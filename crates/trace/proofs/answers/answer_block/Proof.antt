@@ -1,4 +1,4 @@
-use Prim.Native.Nat.{_≤_}
+use Prim.Native.Nat.{_-_, _≤_}
 use native.Mathlib.Omega.{arith}
 use lib.ListN.{length}
 use denote.Ref.{now}
@@ -8,10 +8,10 @@ use Rattle.trace.proofs.answers.answer_block.Statement.{statement}
 use Rattle.trace.proofs.answers.answer_block.Tie as tie
 
 abbrev Inv-loop : tie.InvT-loop
-Inv-loop block stream₀ lines₀ end₀ at₀ turns₀ stream lines end at turns = at ≤ length block
+Inv-loop block stream₀ page₀ end₀ at₀ counter₀ stream page end at counter = at ≤ length block
 
 abbrev μ-loop : tie.MeasureT-loop
-μ-loop block stream₀ lines₀ end₀ at₀ turns₀ stream lines end at turns = turns
+μ-loop block stream₀ page₀ end₀ at₀ counter₀ stream page end at counter = 18446744073709551615 - counter
 
 loop-holds : tie.Need-loop-holds Inv-loop μ-loop
 loop-holds c = search needs
@@ -42,8 +42,8 @@ number-requires c κs = search needs
 put-line-requires : tie.Need-put-line-requires Inv-loop μ-loop
 put-line-requires c κs = search needs
 
-sub-turns : tie.Need-sub-turns Inv-loop μ-loop
-sub-turns c = search needs
+add-counter : tie.Need-add-counter Inv-loop μ-loop
+add-counter c = search needs
 
 loop-less : tie.Need-loop-less Inv-loop μ-loop
 loop-less c = search needs
@@ -54,8 +54,8 @@ loop-again c =
     let b = n .before .before .before in
     next-reaches (now (b .before .before .args .block)) (b .loop .at) (b .loop .stream) (n .next .result) (b .loop .inv) (n .next .ensures .is)
 
-write-lines-requires : tie.Need-write-lines-requires Inv-loop μ-loop
-write-lines-requires c κs = search needs
+write-out-requires : tie.Need-write-out-requires Inv-loop μ-loop
+write-out-requires c κs = search needs
 
 returns : tie.Need-returns Inv-loop μ-loop
 returns c = search needs
@@ -75,8 +75,8 @@ answer-block-spec =
     enum-known-reply
     number-requires
     put-line-requires
-    sub-turns
+    add-counter
     loop-less
     loop-again
-    write-lines-requires
+    write-out-requires
     returns)

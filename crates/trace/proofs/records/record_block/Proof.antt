@@ -1,4 +1,4 @@
-use Prim.Native.Nat.{_≤_}
+use Prim.Native.Nat.{_-_, _≤_}
 use native.Mathlib.Omega.{arith}
 use lib.ListN.{length}
 use denote.Ref.{now}
@@ -8,10 +8,10 @@ use Rattle.trace.proofs.records.record_block.Statement.{statement}
 use Rattle.trace.proofs.records.record_block.Tie as tie
 
 abbrev Inv-loop : tie.InvT-loop
-Inv-loop block tally₀ lines₀ end₀ at₀ turns₀ tally lines end at turns = at ≤ length block
+Inv-loop block tally₀ page₀ end₀ at₀ counter₀ tally page end at counter = at ≤ length block
 
 abbrev μ-loop : tie.MeasureT-loop
-μ-loop block tally₀ lines₀ end₀ at₀ turns₀ tally lines end at turns = turns
+μ-loop block tally₀ page₀ end₀ at₀ counter₀ tally page end at counter = 18446744073709551615 - counter
 
 loop-holds : tie.Need-loop-holds Inv-loop μ-loop
 loop-holds c = search needs
@@ -43,8 +43,8 @@ add-at c =
     let n = c .before .before .before .before .before .before .before in
     omega (arith, b .before .before .good, used-reaches (now (b .before .before .args .block)) (b .loop .at) (b .loop .tally .panel) (n .«record» .result) (b .loop .inv) (n .«record» .ensures))
 
-sub-turns : tie.Need-sub-turns Inv-loop μ-loop
-sub-turns c = omega (arith, c .before .before .before .before .before .before .before .before .before .before .loop-test .taken)
+add-counter : tie.Need-add-counter Inv-loop μ-loop
+add-counter c = omega (arith, c .before .before .before .before .before .before .before .before .before .before .loop-test .taken)
 
 loop-less : tie.Need-loop-less Inv-loop μ-loop
 loop-less c = omega (arith, c .before .before .before .before .before .before .before .before .before .before .loop-test .taken)
@@ -55,8 +55,8 @@ loop-again c =
     let n = c .before .before .before .before .before .before .before in
     used-reaches (now (b .before .before .args .block)) (b .loop .at) (b .loop .tally .panel) (n .«record» .result) (b .loop .inv) (n .«record» .ensures)
 
-write-lines-requires : tie.Need-write-lines-requires Inv-loop μ-loop
-write-lines-requires c κs = search needs
+write-out-requires : tie.Need-write-out-requires Inv-loop μ-loop
+write-out-requires c κs = search needs
 
 sub-wants-more : tie.Need-sub-wants-more Inv-loop μ-loop
 sub-wants-more c = search needs
@@ -103,10 +103,10 @@ record-block-spec =
     put-line-requires
     after-requires
     add-at
-    sub-turns
+    add-counter
     loop-less
     loop-again
-    write-lines-requires
+    write-out-requires
     sub-wants-more
     part-wants-more-start
     part-wants-more-end

@@ -3,16 +3,17 @@ use Prim.Native.Nat.{_-_, _*_, _/_, _%_}
 use mathlib.Core.Path.{refl}
 use native.Mathlib.Omega.{arith}
 use Rattle.dots.specs.laws.TableLaws.{Filled, fill-start, fill-step, fill-end}
-use Rattle.wall.specs.Draw.{eightOf}
+use Rattle.picture.specs.Frame.{glass}
+use Rattle.wall.specs.Draw.{eightOf, rowSize}
 use borrow.Author.Needs.{needs}
 use Rattle.wall.proofs.bitmap.bitmap.Statement.{statement}
 use Rattle.wall.proofs.bitmap.bitmap.Tie as tie
 
 abbrev Inv-loop : tie.InvT-loop
-Inv-loop frame bytes₀ i₀ bytes i = Filled (λ i. eightOf frame (i / 10) (i % 10 * 8)) 80 bytes i
+Inv-loop frame bytes₀ i₀ bytes i = Filled (λ i. eightOf frame (i / rowSize) (i % rowSize * 8)) (glass .rows * rowSize) bytes i
 
 abbrev μ-loop : tie.MeasureT-loop
-μ-loop frame bytes₀ i₀ bytes i = 80 - i
+μ-loop frame bytes₀ i₀ bytes i = glass .rows * rowSize - i
 
 loop-holds : tie.Need-loop-holds Inv-loop μ-loop
 loop-holds c = fill-start _ _ _ refl

@@ -1,27 +1,25 @@
 use Prim.Native.Nat.{_-_, _≤_}
 use mathlib.Core.Path.{_≡_}
 use lib.ListN.{length}
+use Rattle.picture.specs.Frame.{glass}
 use borrow.Author.Needs.{needs}
 use Rattle.wall.proofs.draw.draw_rows.Statement.{statement}
 use Rattle.wall.proofs.draw.draw_rows.Tie as tie
 
 abbrev Inv-loop : tie.InvT-loop
-Inv-loop frame row₀ row = (length frame ≡ 80) × (row ≤ 8)
+Inv-loop frame page₀ end₀ row₀ page end row = (length frame ≡ glass .size) × (row ≤ glass .rows)
 
 abbrev μ-loop : tie.MeasureT-loop
-μ-loop frame row₀ row = 8 - row
+μ-loop frame page₀ end₀ row₀ page end row = glass .rows - row
 
-draw-edge-requires : tie.Need-draw-edge-requires Inv-loop μ-loop
-draw-edge-requires c κs = search needs
+put-edge-requires : tie.Need-put-edge-requires Inv-loop μ-loop
+put-edge-requires c κs = search needs
 
 loop-holds : tie.Need-loop-holds Inv-loop μ-loop
 loop-holds c = search needs
 
-row-line-requires : tie.Need-row-line-requires Inv-loop μ-loop
-row-line-requires c κs = search needs
-
-write-requires : tie.Need-write-requires Inv-loop μ-loop
-write-requires c κs = search needs
+put-row-requires : tie.Need-put-row-requires Inv-loop μ-loop
+put-row-requires c κs = search needs
 
 add-row : tie.Need-add-row Inv-loop μ-loop
 add-row c = search needs
@@ -32,8 +30,11 @@ loop-less c = search needs
 loop-again : tie.Need-loop-again Inv-loop μ-loop
 loop-again c = search needs
 
-draw-edge-requires-2 : tie.Need-draw-edge-requires-2 Inv-loop μ-loop
-draw-edge-requires-2 c κs = search needs
+put-edge-requires-2 : tie.Need-put-edge-requires-2 Inv-loop μ-loop
+put-edge-requires-2 c κs = search needs
+
+write-out-requires : tie.Need-write-out-requires Inv-loop μ-loop
+write-out-requires c κs = search needs
 
 returns : tie.Need-returns Inv-loop μ-loop
 returns c = search needs
@@ -44,12 +45,12 @@ draw-rows-spec =
     (tie.spec
     Inv-loop
     μ-loop
-    draw-edge-requires
+    put-edge-requires
     loop-holds
-    row-line-requires
-    write-requires
+    put-row-requires
     add-row
     loop-less
     loop-again
-    draw-edge-requires-2
+    put-edge-requires-2
+    write-out-requires
     returns)

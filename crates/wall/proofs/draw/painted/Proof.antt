@@ -1,9 +1,3 @@
-use mathlib.Core.Path.{ap, _∙_}
-use mathlib.Core.List.{List}
-use Prim.Native.Nat.{ℕ}
-use lib.ListN.{take}
-use denote.Ref.{now}
-use Rattle.picture.specs.Paint.{frameAfter}
 use borrow.Author.Needs.{needs}
 use Rattle.wall.proofs.draw.painted.Statement.{statement}
 use Rattle.wall.proofs.draw.painted.Tie as tie

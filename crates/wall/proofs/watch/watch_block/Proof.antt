@@ -1,4 +1,4 @@
-use Prim.Native.Nat.{_≤_}
+use Prim.Native.Nat.{_-_, _≤_}
 use native.Mathlib.Omega.{arith}
 use lib.ListN.{length}
 use denote.Ref.{now}
@@ -8,10 +8,10 @@ use Rattle.wall.proofs.watch.watch_block.Statement.{statement}
 use Rattle.wall.proofs.watch.watch_block.Tie as tie
 
 abbrev Inv-loop : tie.InvT-loop
-Inv-loop until block stream₀ more₀ at₀ turns₀ stream more at turns = at ≤ length block
+Inv-loop until block stream₀ more₀ at₀ counter₀ stream more at counter = at ≤ length block
 
 abbrev μ-loop : tie.MeasureT-loop
-μ-loop until block stream₀ more₀ at₀ turns₀ stream more at turns = turns
+μ-loop until block stream₀ more₀ at₀ counter₀ stream more at counter = 18446744073709551615 - counter
 
 loop-holds : tie.Need-loop-holds Inv-loop μ-loop
 loop-holds c = search needs
@@ -40,8 +40,8 @@ add-at c =
 answered-requires : tie.Need-answered-requires Inv-loop μ-loop
 answered-requires c κs = search needs
 
-sub-turns : tie.Need-sub-turns Inv-loop μ-loop
-sub-turns c = search needs
+add-counter : tie.Need-add-counter Inv-loop μ-loop
+add-counter c = search needs
 
 loop-less : tie.Need-loop-less Inv-loop μ-loop
 loop-less c = search needs
@@ -75,7 +75,7 @@ watch-block-spec =
     later-requires
     add-at
     answered-requires
-    sub-turns
+    add-counter
     loop-less
     loop-again
     returns
