@@ -2,6 +2,7 @@
 // (modulo a prime) and the last frame. Each painting has another shift, and every second one a dark blink.
 use chip::registers::Registers;
 use chip::sheet::Sheet;
+use chip::sizes::POSITIONS;
 use desk::arguments::asked;
 use desk::input::Input;
 use desk::print::show;
@@ -59,7 +60,7 @@ fn lit(painted: Painted) -> u64 {
 fn paint_all(panel: Panel, font: &[u8], frame: &mut [u8]) -> u64 {
     let mut total: u64 = 0;
     for i in 0..PAINTINGS {
-        let shown = turned_on(panel, (i % 16) as u8);
+        let shown = turned_on(panel, (i % POSITIONS as u32) as u8);
         let painted = paint(shown, font, i % 2 == 1, frame);
         total = (total % 1000000007 + lit(painted) % 1000) % 1000000007;
     }

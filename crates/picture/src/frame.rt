@@ -15,7 +15,7 @@ pub const ROWS: usize = LINES * TALL;
 
 pub const COLUMNS: usize = POSITIONS * WIDE;
 
-pub const ROW_BYTES: usize = COLUMNS / 8;
+const ROW_BYTES: usize = COLUMNS / 8;
 
 pub const FRAME_SIZE: usize = ROWS * ROW_BYTES;
 
