@@ -17,6 +17,12 @@ loop-holds c = search needs
 cast-turned-on : tie.Need-cast-turned-on Inv-loop μ-loop
 cast-turned-on c = search needs
 
+rem-turned-on : tie.Need-rem-turned-on Inv-loop μ-loop
+rem-turned-on c = search needs
+
+cast-turned-on-2 : tie.Need-cast-turned-on-2 Inv-loop μ-loop
+cast-turned-on-2 c = search needs
+
 turned-on-requires : tie.Need-turned-on-requires Inv-loop μ-loop
 turned-on-requires c κs = search needs
 
@@ -52,6 +58,8 @@ paint-all-spec =
     μ-loop
     loop-holds
     cast-turned-on
+    rem-turned-on
+    cast-turned-on-2
     turned-on-requires
     paint-requires
     lit-requires
