@@ -2,3 +2,4 @@ pub mod Lists
 pub mod PickLaws
 pub mod RingLaws
 pub mod TurnsLaws
+pub mod HeldLaws

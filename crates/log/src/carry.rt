@@ -7,7 +7,8 @@ ghost use lib.Seq.{paste};
 ghost use Rattle.log.specs.Flaw.{flawOf};
 ghost use Rattle.log.specs.Frame.{frameOf, wantsMore};
 ghost use Rattle.log.specs.Carry.{room, carriedOf, carryOf, wantingOf, toppedOf, filledOf};
-ghost use Rattle.log.specs.engine.Reading.{Held, Reach};
+ghost use Rattle.log.specs.engine.Reading.{Reach};
+ghost use Rattle.laws.specs.engine.Held.{Held};
 use crate::flaw::Flaw;
 use crate::frame::Frame;
 use crate::front::flaw;
@@ -42,7 +43,7 @@ fn least(a: usize, b: usize) -> usize
 
 // How many bytes are carried: `len`, or all where it says more.
 pub fn carried(bytes: [u8; ROOM], len: usize) -> usize
-    ensures { λ r. ⌜ Held bytes len r ⌝ }
+    ensures { λ r. ⌜ Held room bytes len r ⌝ }
 {
     if len < ROOM {
         return len;

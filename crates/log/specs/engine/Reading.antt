@@ -2,7 +2,7 @@
 use Prim.Native.Nat.{ℕ, _^_, _<_, _≤_}
 use mathlib.Core.Path.{_≡_}
 use mathlib.Core.List.{List}
-use lib.ListN.{length, take}
+use lib.ListN.{length}
 use Rattle.log.specs.Frame.{num16, num64, kindOf, recordSize}
 use Rattle.log.specs.Carry.{room, reach}
 
@@ -29,10 +29,3 @@ pub record Whole (s : List ℕ) (size kind : ℕ) : Type 0 where
 pub record Reach (s : List ℕ) (r : ℕ) : Type 0 where
   pub is : r ≡ reach s
   pub small : r ≤ room
-
--- what is held of a carry's bytes, by its length
-pub record Held (bytes : List ℕ) (len r : ℕ) : Type 0 where
-  pub size : length bytes ≡ room
-  pub most : r ≤ room
-  pub is : take r bytes ≡ take len bytes
-  pub count : r ≡ length (take r bytes)

@@ -15,7 +15,7 @@ use Rattle.log.specs.Frame.{lengthOf, recordSize, noLength, outsideLengt
 use Rattle.log.specs.laws.CutLaws.{broken, none-want, wants-few, Wants, length-first, then-body, wants, inside, broken-append, cut-either, broken-cut}
 use Rattle.log.specs.Frames.{then, pieces}
 use Rattle.log.specs.Carry.{room, carriedOf, carryOf, wantingOf, reach, upTo, toppedOf, more, filled, filledOf}
-use Rattle.log.specs.engine.Reading.{Held, Reach}
+use Rattle.log.specs.engine.Reading.{Reach}
 use Rattle.log.specs.laws.FrontLaws.{Front, uncut-front, length-same}
 use Rattle.log.specs.laws.FrameLaws.{frame-append, cut-frame}
 use Rattle.log.specs.laws.FramesLaws.{record-first}
@@ -32,10 +32,6 @@ carried s = take-append-seam s (replicate (room - length s) 0)
 -- what wants more is carried whole
 pub keep-wants : (s : List ℕ) → wantsMore s ≡ true → carriedOf (carryOf (take room s)) ≡ s
 keep-wants s w = carried (take room s) ∙ take-all room s (omega (arith, wants-few s w))
-
--- what is held of a carry's bytes
-pub held : (bytes : List ℕ) (len r : ℕ) → length bytes ≡ room → r ≤ room → take r bytes ≡ take len bytes → Held bytes len r
-held bytes len r s m e = record { size = s; most = m; is = e; count = sym (length-take-le r bytes (omega arith)) }
 
 -- a carry whose bytes are pasted after what it holds
 take-least : (k : ℕ) (p : List ℕ) → take (min k (length p)) p ≡ take k p

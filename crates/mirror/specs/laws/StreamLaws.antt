@@ -16,9 +16,9 @@ use Rattle.log.specs.Frames.{Pieces, then, frames, tail, joined}
 use Rattle.log.specs.laws.FrontLaws.{uncut-front}
 use Rattle.log.specs.laws.FrameLaws.{cut-frame, frame-cut}
 use Rattle.log.specs.laws.FramesLaws.{frames-cut, tail-cut, tail-next, joined-frames, tail-is-cut, pieces-append, pieces-broken, record-first}
-use Rattle.log.specs.Carry.{carriedOf, carryOf, wantingOf, reach, toppedOf, more, filled, filledOf}
+use Rattle.log.specs.Carry.{carriedOf, carryOf, wantingOf, reach, toppedOf, more, filled, filledOf, room}
 use Rattle.log.specs.laws.CarryLaws.{left, carried, fill-carried, wanting-wants, fill-wants, fill-broken, fill-frame, fill-front, fill-whole}
-use Rattle.log.specs.engine.Reading.{Held}
+use Rattle.laws.specs.engine.Held.{Held}
 use Rattle.log.specs.Flaw.{flawOf}
 use Rattle.log.specs.declared.flaw.Flaw.{Flaw}
 use Rattle.log.specs.declared.frame.Frame.{Frame}
@@ -257,7 +257,7 @@ pub record Fed (st : Stream) (part v : List ℕ) (taken : ℕ) : Type 0 where
   pub within : taken ≤ length part
 
 pub has-fed : (st : Stream) (part : List ℕ) (w : Carry) (f : Filled) (h : ℕ) → w ≡ carryOf (waitingBytes st) → f ≡ filledOf (carriedOf w) part →
-    Held (f .carry .bytes) (f .carry .len) h → Fed st part (take h (f .carry .bytes)) (f .taken)
+    Held room (f .carry .bytes) (f .carry .len) h → Fed st part (take h (f .carry .bytes)) (f .taken)
 unfolding toppedOf
 has-fed st part w f h e g k =
     let q = g ∙ ap (λ x. filledOf (carriedOf x) part) e ∙ ap (λ x. filledOf x part) (carried (waitingBytes st)) in

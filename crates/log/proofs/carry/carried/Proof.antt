@@ -1,18 +1,14 @@
-use mathlib.Core.Path.{refl, sym, _∙_}
 use native.Mathlib.Omega.{arith}
-use lib.Seq.{take-all}
 use borrow.Author.Needs.{needs}
-use Rattle.log.specs.laws.CarryLaws.{held}
+use Rattle.laws.specs.laws.HeldLaws.{held-some, held-all}
 use Rattle.log.proofs.carry.carried.Statement.{statement}
 use Rattle.log.proofs.carry.carried.Tie as tie
 
 returns : tie.Need-returns
-returns c = held _ _ _ (search needs) (omega arith) refl
+returns c = held-some _ _ _ (search needs) (omega arith)
 
 returns-2 : tie.Need-returns-2
-returns-2 c =
-    let a = c .before .args in
-    held (a .bytes) (a .len) 66 (search needs) (omega arith) (take-all 66 (a .bytes) (search needs) ∙ sym (take-all (a .len) (a .bytes) (search needs)))
+returns-2 c = let a = c .before .args in held-all _ (a .bytes) (a .len) (search needs) (omega arith)
 
 pub carried-spec : {M : Type 1} → statement M
 carried-spec = tie.close (tie.spec returns returns-2)
