@@ -1,4 +1,5 @@
 pub mod Pick
 pub mod Ring
+pub mod Held
 pub mod engine
 pub mod laws

@@ -8,7 +8,7 @@ ghost use Rattle.log.specs.Flaw.{flawOf};
 ghost use Rattle.log.specs.Frame.{frameOf, wantsMore};
 ghost use Rattle.log.specs.Carry.{room, carriedOf, carryOf, wantingOf, toppedOf, filledOf};
 ghost use Rattle.log.specs.engine.Reading.{Reach};
-ghost use Rattle.laws.specs.engine.Held.{Held};
+ghost use Rattle.laws.specs.Held.{Held};
 use crate::flaw::Flaw;
 use crate::frame::Frame;
 use crate::front::flaw;

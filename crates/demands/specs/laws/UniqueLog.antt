@@ -26,7 +26,7 @@ use Rattle.log.proofs.records.records as records·records
 use Rattle.demands.specs.Unique.{DeterminesAnswer, answer, equation}
 
 module _ {M : Type 1} (𝓤 : URA M) (H : Heap 𝓤) (A : Atoms 𝓤) (mem : Memory → SProp 𝓤) (run : Routine → Fun 𝓤) where
-  -- log::carry::carried: Held bytes len r
+  -- log::carry::carried: Held room bytes len r
   pub carried : DeterminesAnswer 𝓤 carry·carried.ended (carry·carried.clauses 𝓤 H A mem run)
   carried = answer 𝓤 _ _ _ (λ κs a g r e. refl) (λ κs a r s e f p q. p .count ∙ ap length (p .is ∙ sym (q .is)) ∙ sym (q .count))
 

@@ -5,7 +5,7 @@ use mathlib.Core.List.{List}
 use native.Mathlib.Omega.{arith}
 use lib.ListN.{length, take}
 use lib.Seq.{length-take-le, take-all}
-use Rattle.laws.specs.engine.Held.{Held}
+use Rattle.laws.specs.Held.{Held}
 
 module _ (room : ℕ) (bytes : List ℕ) (len : ℕ) (size : length bytes ≡ room) where
   pub held-some : len ≤ room → Held room bytes len len

@@ -18,7 +18,7 @@ use Rattle.log.specs.laws.FrameLaws.{cut-frame, frame-cut}
 use Rattle.log.specs.laws.FramesLaws.{frames-cut, tail-cut, tail-next, joined-frames, tail-is-cut, pieces-append, pieces-broken, record-first}
 use Rattle.log.specs.Carry.{carriedOf, carryOf, wantingOf, reach, toppedOf, more, filled, filledOf, room}
 use Rattle.log.specs.laws.CarryLaws.{left, carried, fill-carried, wanting-wants, fill-wants, fill-broken, fill-frame, fill-front, fill-whole}
-use Rattle.laws.specs.engine.Held.{Held}
+use Rattle.laws.specs.Held.{Held}
 use Rattle.log.specs.Flaw.{flawOf}
 use Rattle.log.specs.declared.flaw.Flaw.{Flaw}
 use Rattle.log.specs.declared.frame.Frame.{Frame}
