@@ -6,10 +6,10 @@ use Rattle.mirror.specs.Answer.{numberOf}
 use Rattle.mirror.specs.Run.{tallied}
 use Rattle.mirror.specs.declared.panel.Panel.{Panel}
 use Rattle.striking.specs.Machine.{Answered, run, final}
-use Rattle.demands.specs.Mirrors.{Reply, Mirror, machineOf}
+use Rattle.demands.specs.Mirrors.{Response, Mirror, machineOf}
 
 -- a log's records, each with its own bytes and what it was told, one after another from a panel on
-abbrev pub answersBy : Mirror → Panel → List ℕ → List (Answered (List ℕ) Reply)
+abbrev pub answersBy : Mirror → Panel → List ℕ → List (Answered (List ℕ) Response)
 answersBy m p log = run (machineOf m) p (frames log)
 
 -- the panel at the end
@@ -17,11 +17,11 @@ abbrev pub panelBy : Mirror → Panel → List ℕ → Panel
 panelBy m p log = final (machineOf m) p (frames log)
 
 -- the counts of answers, raised one by one
-abbrev pub countsOf : List ℕ → List (Answered (List ℕ) Reply) → List ℕ
+abbrev pub countsOf : List ℕ → List (Answered (List ℕ) Response) → List ℕ
 countsOf counts [] = counts
 countsOf counts (a ∷ rest) = countsOf (tallied counts (a .answer .answer)) rest
 
 -- the answers' numbers
-abbrev pub numbers : List (Answered (List ℕ) Reply) → List ℕ
+abbrev pub numbers : List (Answered (List ℕ) Response) → List ℕ
 numbers [] = []
 numbers (a ∷ rest) = numberOf (a .answer .answer) ∷ numbers rest

@@ -15,19 +15,19 @@ use Rattle.mirror.specs.declared.panel.Panel.{Panel}
 use Rattle.mirror.specs.declared.record.Recorded.{Recorded}
 use Rattle.mirror.specs.declared.stream.Stream.{Stream}
 use Rattle.mirror.specs.declared.stream.Reply.the-variants as next
-use Rattle.mirror.specs.declared.stream.Reply as stream
+use Rattle.mirror.specs.declared.stream.Reply.{Reply}
 use Rattle.striking.specs.Machine.{Answered}
-use Rattle.demands.specs.Mirrors.{Reply, outOf, ours}
+use Rattle.demands.specs.Mirrors.{Response, outOf, ours}
 use Rattle.demands.specs.Answers.{answersBy, panelBy, countsOf}
 
 -- what each record was told
-abbrev pub told : List (Answered (List ℕ) Reply) → List Reply
+abbrev pub told : List (Answered (List ℕ) Response) → List Response
 told [] = []
 told (a ∷ rest) = a .answer ∷ told rest
 
 -- BY `record`, called again and again, at most n times: each call on the panel and the bytes that the one before it left; one that uses
 -- nothing is the last
-abbrev pub callsOf : ℕ → Panel → List ℕ → List Reply
+abbrev pub callsOf : ℕ → Panel → List ℕ → List Response
 callsOf zero p s = []
 callsOf (suc n) p s =
     let r = recordOf p s in
@@ -41,19 +41,19 @@ leftOf (suc n) p s =
     pick (eqb (r .used) 0) p (leftOf n (r .panel) (drop (r .used) s))
 
 -- BY `next`: what a reply tells
-abbrev pub tells : stream.Reply → List Reply
+abbrev pub tells : Reply → List Response
 tells (next.Answered answer byte) = record { answer = answer; byte = byte } ∷ []
 tells next.More = []
 tells next.Cut = []
 tells next.Refused = []
 
 -- calls of it one after another from a panel on: the bytes that they took, whatever parts they were offered, and what they told
-pub data Asked (p : Panel) : List ℕ → List Reply → Stream → Type 0 where
+pub data Asked (p : Panel) : List ℕ → List Response → Stream → Type 0 where
   started : Asked p [] [] (startOf p)
-  asked : {log : List ℕ} {replies : List Reply} {st : Stream} → Asked p log replies st → (part : List ℕ) →
+  asked : {log : List ℕ} {replies : List Response} {st : Stream} → Asked p log replies st → (part : List ℕ) →
       Asked p (log ++ take (nextOf st part .taken) part) (replies ++ tells (nextOf st part .reply)) (nextOf st part .stream)
   -- what comes after a cut is not taken any more
-  ended : {log : List ℕ} {replies : List Reply} {st : Stream} → Asked p log replies st → st .over ≡ true → (rest : List ℕ) → Asked p (log ++ rest) replies st
+  ended : {log : List ℕ} {replies : List Response} {st : Stream} → Asked p log replies st → st .over ≡ true → (rest : List ℕ) → Asked p (log ++ rest) replies st
 
 -- BY `feed`, part after part, and `end`
 abbrev pub fedAll : Stream → List (List ℕ) → Stream
@@ -64,8 +64,8 @@ fedAll st (part ∷ parts) = fedAll (feedOf st part) parts
 pub record Chain (p : Panel) (log : List ℕ) : Type 0 where
   pub calls : callsOf (length log) p log ≡ told (answersBy ours p log)
   pub left : leftOf (length log) p log ≡ panelBy ours p log
-  pub nexts : (replies : List Reply) (st : Stream) → Asked p log replies st → replies ≡ told (answersBy ours p log)
-  pub stands : (replies : List Reply) (st : Stream) → Asked p log replies st → panelIn st ≡ panelBy ours p log
+  pub nexts : (replies : List Response) (st : Stream) → Asked p log replies st → replies ≡ told (answersBy ours p log)
+  pub stands : (replies : List Response) (st : Stream) → Asked p log replies st → panelIn st ≡ panelBy ours p log
   pub panel : runOf p log .panel ≡ panelBy ours p log
   pub counts : runOf p log .counts ≡ countsOf (replicate 8 0) (answersBy ours p log)
   pub parts : (parts : List (List ℕ)) → joined parts ≡ log → endOf (fedAll (startOf p) parts) ≡ runOf p log

@@ -12,15 +12,15 @@ use Rattle.mirror.specs.declared.record.Recorded.{Recorded}
 use Rattle.striking.specs.Machine.{stays, goes, waits, keeps, strikes, leaves, Sort, sorted, Out, Machine}
 
 -- what a record is told: its answer and its bus byte
-pub record Reply : Type 0 where
+pub record Response : Type 0 where
   pub answer : Answer
   pub byte : ℕ
 
 -- a mirror: the panel after a record, given by its own bytes, and what it is told
 abbrev pub Mirror : Type 0
-Mirror = Panel → List ℕ → Out Panel Reply
+Mirror = Panel → List ℕ → Out Panel Response
 
-abbrev pub outOf : Recorded → Out Panel Reply
+abbrev pub outOf : Recorded → Out Panel Response
 outOf r = record { state = r .panel; answer = record { answer = r .answer; byte = r .byte } }
 
 -- ours: the record that the table's row describes
@@ -46,5 +46,5 @@ abbrev pub settledPanel : Panel → Panel
 settledPanel p = holding 0 Empty p
 
 -- a mirror as a machine that reads the records' bytes
-abbrev pub machineOf : Mirror → Machine Panel (List ℕ) Reply
+abbrev pub machineOf : Mirror → Machine Panel (List ℕ) Response
 machineOf m = record { step = m; sort = λ bytes r. sortFor (r .answer); bare = settledPanel; Idle = λ p. p .half ≡ Empty }

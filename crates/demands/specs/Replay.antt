@@ -17,7 +17,7 @@ use Rattle.mirror.specs.Panel.{freshPanel}
 use Rattle.mirror.specs.Answers.{Typed}
 use Rattle.mirror.specs.declared.answer.Answer.{Answer}
 use Rattle.striking.specs.Machine.{Answered}
-use Rattle.demands.specs.Mirrors.{Reply, Mirror}
+use Rattle.demands.specs.Mirrors.{Response, Mirror}
 use Rattle.demands.specs.Answers.{answersBy, panelBy}
 
 -- an entry for the sheet's machine, which has no clock and no half transfers
@@ -39,12 +39,12 @@ carriedAll [] s = s
 carriedAll (e ∷ rest) s = carriedAll rest (carried e s)
 
 -- a first half that was held and is not decided yet: the data that it came with
-pub data First : Type 0 where
-  none : First
-  held : (bus : ℕ) → First
+pub data ReplayHalf : Type 0 where
+  none : ReplayHalf
+  held : (bus : ℕ) → ReplayHalf
 
 -- a pair of halves is one byte, of data bits 7 to 4 of each; without a first half the data is used in full
-abbrev pub joinedWith : First → ℕ → ℕ
+abbrev pub joinedWith : ReplayHalf → ℕ → ℕ
 joinedWith none bus = bus
 joinedWith (held high) bus = high / 16 % 16 * 16 + bus / 16
 
@@ -53,7 +53,7 @@ abbrev pub entryOf : Bool → Bool → ℕ → List Entry
 entryOf rs reads byte = pick reads (pick rs (read ∷ []) []) (pick rs (write byte ∷ []) (instruct byte ∷ []))
 
 -- the entry of a record, given the first half before it
-abbrev pub entryAt : First → Frame → List Entry
+abbrev pub entryAt : ReplayHalf → Frame → List Entry
 entryAt first frame.Cut = []
 entryAt first (frame.Bad size) = []
 entryAt first (frame.Reset time) = reset ∷ []
@@ -66,22 +66,22 @@ busOf (frame.Reset time) = 0
 busOf (frame.Transfer time rs reads bus) = bus
 
 -- an entry is carried out where the answer is 0, taken
-abbrev pub entriesBy : Answer → First → Frame → List Entry
+abbrev pub entriesBy : Answer → ReplayHalf → Frame → List Entry
 entriesBy answer first f = pick (eqb (numberOf answer) 0) (entryAt first f) []
 
 -- answer 1 holds a first half; 0, 2, 3, 4 and 7 leave none; all others change nothing
-abbrev pub firstAfter : Answer → First → Frame → First
+abbrev pub firstAfter : Answer → ReplayHalf → Frame → ReplayHalf
 firstAfter answer first f =
     let n = numberOf answer in
     pick (eqb n 1) (held (busOf f)) (pick (ltb n 5 || eqb n 7) none first)
 
 -- the entries answered taken, once each, in order, a pair of halves as one
-abbrev pub takenFrom : First → List (Answered (List ℕ) Reply) → List Entry
+abbrev pub takenFrom : ReplayHalf → List (Answered (List ℕ) Response) → List Entry
 takenFrom first [] = []
 takenFrom first (a ∷ rest) =
     entriesBy (a .answer .answer) first (frameOf (a .event)) ++ takenFrom (firstAfter (a .answer .answer) first (frameOf (a .event))) rest
 
-abbrev pub takenOf : List (Answered (List ℕ) Reply) → List Entry
+abbrev pub takenOf : List (Answered (List ℕ) Response) → List Entry
 takenOf answers = takenFrom none answers
 
 -- DEMAND 3, FIRST HALF, of any mirror: from a fresh panel, for any log

@@ -14,11 +14,11 @@ use Rattle.mirror.specs.declared.panel.Panel.{Panel}
 use Rattle.striking.specs.Machine.{Answered, events}
 use Rattle.striking.specs.Striking.{unstruck}
 use Rattle.mirror.specs.Stream.{runOf}
-use Rattle.demands.specs.Mirrors.{Reply, Mirror, ours, settledPanel, machineOf}
+use Rattle.demands.specs.Mirrors.{Response, Mirror, ours, settledPanel, machineOf}
 use Rattle.demands.specs.Answers.{answersBy, panelBy}
 
 -- the records that stay, with what they were told: read off the log and its answers alone
-abbrev pub stayed : Mirror → Panel → List ℕ → List (Answered (List ℕ) Reply)
+abbrev pub stayed : Mirror → Panel → List ℕ → List (Answered (List ℕ) Response)
 stayed m p log = unstruck (machineOf m .sort) (answersBy m p log)
 
 -- the struck log: the bytes of these records, one after another
@@ -26,12 +26,12 @@ abbrev pub struckLog : Mirror → Panel → List ℕ → List ℕ
 struckLog m p log = joined (events (stayed m p log))
 
 -- the records answered taken
-abbrev pub takens : List (Answered (List ℕ) Reply) → List (Answered (List ℕ) Reply)
+abbrev pub takens : List (Answered (List ℕ) Response) → List (Answered (List ℕ) Response)
 takens [] = []
 takens (a ∷ rest) = pick (eqb (numberOf (a .answer .answer)) 0) (a ∷ takens rest) (takens rest)
 
 -- all are answered taken or held
-abbrev pub TakenOrHeld : List (Answered (List ℕ) Reply) → Type 0
+abbrev pub TakenOrHeld : List (Answered (List ℕ) Response) → Type 0
 TakenOrHeld [] = Unit {0}
 TakenOrHeld (a ∷ rest) = (numberOf (a .answer .answer) ≤ 1) × TakenOrHeld rest
 

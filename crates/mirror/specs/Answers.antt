@@ -33,15 +33,15 @@ AllUnclocked p [] = Unit {0}
 AllUnclocked p (f ∷ fs) = (clocked (answerTo p f) ≡ false) × AllUnclocked (panelAfter p f) fs
 
 -- a log is made of bytes
-abbrev pub Bytes : List ℕ → Type 0
-Bytes s = (i : ℕ) → getD s i 0 < 256
+abbrev pub ByteLog : List ℕ → Type 0
+ByteLog s = (i : ℕ) → getD s i 0 < 256
 
 -- what the types hold: three times below 65,536, and a log made of bytes
 pub record Typed (reset long short : ℕ) (log : List ℕ) : Type 0 where
   pub reset-fits : reset < 65536
   pub long-fits : long < 65536
   pub short-fits : short < 65536
-  pub bytes : Bytes log
+  pub bytes : ByteLog log
 
 -- and a panel that is sound, of such times
 pub record Proper (p : Panel) (log : List ℕ) : Type 0 where
@@ -49,4 +49,4 @@ pub record Proper (p : Panel) (log : List ℕ) : Type 0 where
   pub reset-fits : p .times .reset < 65536
   pub long-fits : p .times .long < 65536
   pub short-fits : p .times .short < 65536
-  pub bytes : Bytes log
+  pub bytes : ByteLog log

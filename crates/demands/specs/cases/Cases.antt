@@ -15,7 +15,7 @@ use Rattle.dots.specs.Table as rows
 use Rattle.picture.specs.Pattern.{fontSize}
 use Rattle.picture.specs.Picture.{shapeAt}
 use Rattle.striking.specs.Machine.{Answered}
-use Rattle.demands.specs.Mirrors.{Reply, ours}
+use Rattle.demands.specs.Mirrors.{Response, ours}
 use Rattle.demands.specs.Answers.{answersBy}
 use Rattle.demands.specs.cases.Logs.{answering, instructAt, writeAt, statusAt, casePanel}
 
@@ -30,7 +30,7 @@ pub record Seen : Type 0 where
   pub half : Half
   pub shape : List ℕ
 
-abbrev told : List (Answered (List ℕ) Reply) → List (ℕ × ℕ)
+abbrev told : List (Answered (List ℕ) Response) → List (ℕ × ℕ)
 told [] = []
 told (a ∷ rest) = (numberOf (a .answer .answer), a .answer .byte) ∷ told rest
 

@@ -10,7 +10,7 @@ use Rattle.log.specs.Frame.{num16, num64, cutAt, badAt, frameOf}
 use Rattle.log.specs.Frames.{piecesFrom}
 use Rattle.chip.specs.Sound.{patternFits}
 use Rattle.mirror.specs.Panel.{freshPanel}
-use Rattle.mirror.specs.Answers.{Bytes, Typed, Proper}
+use Rattle.mirror.specs.Answers.{ByteLog, Typed, Proper}
 use Rattle.mirror.specs.laws.TypedLaws.{typed-proper}
 use Rattle.mirror.specs.Table.{rowFor, recordOf}
 use Rattle.mirror.specs.Run.{tallied, onward}
@@ -67,7 +67,7 @@ abbrev pub allBytes : List ℕ → Bool
 allBytes [] = true
 allBytes (b ∷ s) = ltb b 256 && allBytes s
 
-pub bytes : (s : List ℕ) → allBytes s ≡ true → Bytes s
+pub bytes : (s : List ℕ) → allBytes s ≡ true → ByteLog s
 bytes [] e i = omega arith
 bytes (b ∷ s) e zero = ltb-true b 256 (and-left (ltb b 256) (allBytes s) e)
 bytes (b ∷ s) e (suc i) = bytes s (and-right (ltb b 256) (allBytes s) e) i

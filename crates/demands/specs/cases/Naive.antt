@@ -17,21 +17,21 @@ use Rattle.mirror.specs.declared.half.Half.the-variants.{Empty, Ignored, Waitin
 use Rattle.mirror.specs.declared.panel.Panel.{Panel}
 use Rattle.striking.specs.Machine.{stays, goes, leaves, Sort, sorted, Answered, events}
 use Rattle.striking.specs.Striking.{settled, remains, unstruck}
-use Rattle.demands.specs.Mirrors.{Reply, ours, sortFor}
+use Rattle.demands.specs.Mirrors.{Response, ours, sortFor}
 use Rattle.demands.specs.Answers.{answersBy, panelBy, numbers}
 use Rattle.demands.specs.Replay.{carriedAll, takenOf}
 use Rattle.demands.specs.Striking.{struckLog, StruckFrom}
 use Rattle.demands.specs.cases.Logs.{answering, instructAt, writeAt, statusAt, badRecord, casePanel}
 
 -- that a way to strike leaves the answers of what stays as they were
-abbrev AsBefore : (List (Answered (List ℕ) Reply) → List (Answered (List ℕ) Reply)) → Type 0
+abbrev AsBefore : (List (Answered (List ℕ) Response) → List (Answered (List ℕ) Response)) → Type 0
 AsBefore left =
     (log : List ℕ) →
     let all = answersBy ours casePanel log in
     numbers (answersBy ours casePanel (joined (events (left all)))) ≡ numbers (left all)
 
 -- records go where their own answer's number passes a test, and stay otherwise; none looks at another
-abbrev byNumber : (ℕ → Bool) → List ℕ → Reply → Sort
+abbrev byNumber : (ℕ → Bool) → List ℕ → Response → Sort
 byNumber test bytes r = sorted (pick (test (numberOf (r .answer))) goes stays) leaves
 
 -- FALSE: a record goes or stays by its own answer alone, 2 and more. The first half of a status read is left, and tears the pair that follows
@@ -43,11 +43,11 @@ not-alone h =
     omega arith
 
 -- FALSE: the first half is the record before. A bad or a back record may stand between the halves
-abbrev keptByNext : List (Answered (List ℕ) Reply) → Bool
+abbrev keptByNext : List (Answered (List ℕ) Response) → Bool
 keptByNext [] = true
 keptByNext (a ∷ rest) = settled (sortFor (a .answer .answer) .others) true
 
-abbrev before : List (Answered (List ℕ) Reply) → List (Answered (List ℕ) Reply)
+abbrev before : List (Answered (List ℕ) Response) → List (Answered (List ℕ) Response)
 before [] = []
 before (a ∷ rest) = pick (remains (sortFor (a .answer .answer) .own) (keptByNext rest)) (a ∷ before rest) (before rest)
 

@@ -18,7 +18,7 @@ use Rattle.mirror.specs.declared.answer.Answer.{Answer}
 use Rattle.mirror.specs.declared.answer.Answer.the-variants as say
 use Rattle.mirror.specs.declared.panel.Panel.{Panel}
 use Rattle.striking.specs.Machine as machine
-use Rattle.demands.specs.Mirrors.{Reply, Mirror, ours}
+use Rattle.demands.specs.Mirrors.{Response, Mirror, ours}
 use Rattle.demands.specs.Answers.{answersBy, panelBy}
 use Rattle.demands.specs.Replay.{carriedAll, takenOf, Replays}
 use Rattle.demands.specs.Rules.{IgnoresBusy, DoesSteps, Counter, Counts, AddsUp}
@@ -85,8 +85,8 @@ unfolding answering
 nods-answers m n =
     let first = n .obeys casePanel (writeAt 0 0x57) refl in
     ap (λ (p : Panel). machine.answered (writeAt 0 0x57) (m casePanel (writeAt 0 0x57) .answer) ∷ machine.answered (writeAt 40 0x57) (m p (writeAt 40 0x57) .answer) ∷ []) first
-    ∙ ap (λ (r : Reply). machine.answered (writeAt 0 0x57) r ∷ machine.answered (writeAt 40 0x57) (m once (writeAt 40 0x57) .answer) ∷ []) (n .answers casePanel (writeAt 0 0x57))
-    ∙ ap (λ (r : Reply). machine.answered (writeAt 0 0x57) (ours casePanel (writeAt 0 0x57) .answer) ∷ machine.answered (writeAt 40 0x57) r ∷ []) (n .answers once (writeAt 40 0x57))
+    ∙ ap (λ (r : Response). machine.answered (writeAt 0 0x57) r ∷ machine.answered (writeAt 40 0x57) (m once (writeAt 40 0x57) .answer) ∷ []) (n .answers casePanel (writeAt 0 0x57))
+    ∙ ap (λ (r : Response). machine.answered (writeAt 0 0x57) (ours casePanel (writeAt 0 0x57) .answer) ∷ machine.answered (writeAt 40 0x57) r ∷ []) (n .answers once (writeAt 40 0x57))
 
 nods-sheet : (m : Mirror) → Nods m → panelBy m casePanel twice .sheet ≡ once .sheet
 unfolding answering

@@ -22,7 +22,7 @@ use Rattle.mirror.specs.Table.{recordOf}
 use Rattle.mirror.specs.laws.TableLaws.{answered-sound}
 use Rattle.mirror.specs.laws.SoundParts.{whole}
 use Rattle.mirror.specs.laws.SoundLaws.{Lasts, record-lasts}
-use Rattle.mirror.specs.Answers.{Bytes, Proper, panelAfter}
+use Rattle.mirror.specs.Answers.{ByteLog, Proper, panelAfter}
 use Rattle.mirror.specs.laws.TypedLaws.{proper-lasts, typed-proper}
 use Rattle.mirror.specs.Run.{started, onward}
 use Rattle.mirror.specs.laws.RunLaws.{answered-used, cut-used, uncut-used}
@@ -37,7 +37,7 @@ use Rattle.mirror.specs.declared.stream.Next.{Next}
 use Rattle.mirror.specs.declared.stream.Reply.the-variants.{More, Cut}
 use Rattle.striking.specs.Machine.{Answered, run, final}
 use Rattle.striking.specs.Machine as machine
-use Rattle.demands.specs.Mirrors.{Reply, outOf, ours, machineOf}
+use Rattle.demands.specs.Mirrors.{Response, outOf, ours, machineOf}
 use Rattle.demands.specs.Answers.{answersBy, panelBy}
 use Rattle.demands.specs.laws.EngineLaws.{engine, same-answers, same-panel}
 use Rattle.demands.specs.laws.AnswersLaws.{onward-panel, of-run}
@@ -91,8 +91,8 @@ goes n p s l u h =
     )
 
 -- one call more
-one-call : (n : ℕ) (p : Panel) (s : List ℕ) → length s ≤ suc n → Lasts p → Bytes s → let r = recordOf p s in
-    (length (drop (r .used) s) ≤ n → Lasts (r .panel) → Bytes (drop (r .used) s) → Calls n (r .panel) (drop (r .used) s)) → Calls (suc n) p s
+one-call : (n : ℕ) (p : Panel) (s : List ℕ) → length s ≤ suc n → Lasts p → ByteLog s → let r = recordOf p s in
+    (length (drop (r .used) s) ≤ n → Lasts (r .panel) → ByteLog (drop (r .used) s) → Calls n (r .panel) (drop (r .used) s)) → Calls (suc n) p s
 one-call n p s few l b more = by (eqb (recordOf p s .used) 0) refl
   where
     by : (x : Bool) → eqb (recordOf p s .used) 0 ≡ x → Calls (suc n) p s
@@ -116,7 +116,7 @@ one-call n p s few l b more = by (eqb (recordOf p s .used) 0) refl
         }
 
 -- as many calls as the log has bytes are enough
-all-calls : (n : ℕ) (p : Panel) (s : List ℕ) → length s ≤ n → Lasts p → Bytes s → Calls n p s
+all-calls : (n : ℕ) (p : Panel) (s : List ℕ) → length s ≤ n → Lasts p → ByteLog s → Calls n p s
 all-calls zero p s few l b = ends p s (by (cutAt s) refl)
   where
     by : (x : Bool) → cutAt s ≡ x → cutAt s ≡ true
@@ -131,7 +131,7 @@ told-append : (fs gs : List (List ℕ)) (p : Panel) →
 told-append [] gs p = refl
 told-append (f ∷ fs) gs p = ap (λ x. engine p f .answer ∷ x) (told-append fs gs (engine p f .state))
 
-record Told (p : Panel) (log : List ℕ) (replies : List Reply) (st : Stream) : Type 0 where
+record Told (p : Panel) (log : List ℕ) (replies : List Response) (st : Stream) : Type 0 where
   stream : st ≡ feedOf (startAs true p) log
   replies-are : replies ≡ told (answersBy engine p log)
 
@@ -149,7 +149,7 @@ module _ (p : Panel) where
         replies-are = ap (λ fs. told (run (machineOf engine) p fs)) (sym (frames-cut [] n));
       }
 
-  module _ (log : List ℕ) (replies : List Reply) (st : Stream) (h : Told p log replies st) (part : List ℕ) where
+  module _ (log : List ℕ) (replies : List Response) (st : Stream) (h : Told p log replies st) (part : List ℕ) where
     abbrev After : Next → Type 0
     After n = Told p (log ++ take (n .taken) part) (replies ++ tells (n .reply)) (n .stream)
 
@@ -212,7 +212,7 @@ module _ (p : Panel) where
         by false o true u = still o u
         by false o false u = whole-one o u
 
-  told-all : soundPanel p ≡ true → {log : List ℕ} {replies : List Reply} {st : Stream} → Asked p log replies st → Told p log replies st
+  told-all : soundPanel p ≡ true → {log : List ℕ} {replies : List Response} {st : Stream} → Asked p log replies st → Told p log replies st
   told-all e begun = subst (λ b. Told p [] [] (startAs b p)) (sym e) told-start
   told-all e (asked {log} {replies} {st} before part) = one-more log replies st (told-all e before) part
   told-all e (ended {log} {replies} {st} before over rest) =

@@ -31,7 +31,7 @@ use Rattle.mirror.specs.declared.answer.Answer.the-variants as say
 use Rattle.mirror.specs.declared.panel.Panel.{Panel}
 use Rattle.mirror.specs.declared.record.Recorded.{Recorded}
 use Rattle.striking.specs.Machine.{Answered, run}
-use Rattle.demands.specs.Mirrors.{Reply, Mirror, ours, machineOf}
+use Rattle.demands.specs.Mirrors.{Response, Mirror, ours, machineOf}
 use Rattle.demands.specs.laws.EngineLaws.{engine}
 use Rattle.demands.specs.Answers.{answersBy, countsOf, numbers}
 use Rattle.demands.specs.laws.AnswersLaws.{OfRun, of-engine, of-run}
@@ -68,7 +68,7 @@ tally-at counts a n k h l e = by (ltb (numberOf a) 8) refl (eqb (numberOf a) n) 
     by false f true g = absurd (omega (arith, ltb-false m 8 f, eqb-true m n g))
     by false f false g = e ∙ ap capped (sym (zero-add k))
 
-count-at : (answers : List (Answered (List ℕ) Reply)) (counts : List ℕ) (n k : ℕ) → n < 8 → length counts ≡ 8 → getD counts n 0 ≡ capped k →
+count-at : (answers : List (Answered (List ℕ) Response)) (counts : List ℕ) (n k : ℕ) → n < 8 → length counts ≡ 8 → getD counts n 0 ≡ capped k →
     getD (countsOf counts answers) n 0 ≡ capped (occurrences n (numbers answers) + k)
 count-at [] counts n k h l e = e ∙ ap capped (sym (zero-add k))
 count-at (a ∷ rest) counts n k h l e =

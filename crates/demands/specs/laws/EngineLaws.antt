@@ -15,7 +15,7 @@ use Rattle.mirror.specs.laws.TypedLaws.{AllData, frames-data, proper-lasts}
 use Rattle.mirror.specs.declared.panel.Panel.{Panel}
 use Rattle.striking.specs.Machine.{Out, run, final}
 use Rattle.striking.specs.Machine as machine
-use Rattle.demands.specs.Mirrors.{Reply, Mirror, outOf, ours, machineOf}
+use Rattle.demands.specs.Mirrors.{Response, Mirror, outOf, ours, machineOf}
 use Rattle.demands.specs.Answers.{answersBy, panelBy}
 
 -- the engine, which the proofs go through
@@ -29,13 +29,13 @@ same-step p bytes e = ap outOf (answered-sound p bytes e)
 pub same-run : (fs : List (List ℕ)) (p : Panel) → Lasts p → AllData fs → run (machineOf engine) p fs ≡ run (machineOf ours) p fs
 same-run [] p l d = refl
 same-run (f ∷ fs) p l d =
-    ap (λ (o : Out Panel Reply). machine.answered f (o .answer) ∷ run (machineOf engine) (o .state) fs) (same-step p f (whole p (l .sound)))
+    ap (λ (o : Out Panel Response). machine.answered f (o .answer) ∷ run (machineOf engine) (o .state) fs) (same-step p f (whole p (l .sound)))
     ∙ ap (λ rest. machine.answered f (ours p f .answer) ∷ rest) (same-run fs (panelAfter p f) (record-lasts p f (d .0) l) (d .1))
 
 pub same-final : (fs : List (List ℕ)) (p : Panel) → Lasts p → AllData fs → final (machineOf engine) p fs ≡ final (machineOf ours) p fs
 same-final [] p l d = refl
 same-final (f ∷ fs) p l d =
-    ap (λ (o : Out Panel Reply). final (machineOf engine) (o .state) fs) (same-step p f (whole p (l .sound)))
+    ap (λ (o : Out Panel Response). final (machineOf engine) (o .state) fs) (same-step p f (whole p (l .sound)))
     ∙ same-final fs (panelAfter p f) (record-lasts p f (d .0) l) (d .1)
 
 -- so for a log

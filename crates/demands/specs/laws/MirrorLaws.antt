@@ -24,13 +24,13 @@ use Rattle.mirror.specs.declared.record.Recorded.{Recorded}
 use Rattle.striking.specs.Machine.{goes, strikes, leaves, sorted, Machine}
 use Rattle.striking.specs.Duties.{Turn, KeeperStays, Laws}
 use Rattle.striking.specs.laws.Instances.{through-laws}
-use Rattle.demands.specs.Mirrors.{Reply, outOf, sortFor, settledPanel, machineOf}
+use Rattle.demands.specs.Mirrors.{Response, outOf, sortFor, settledPanel, machineOf}
 use Rattle.demands.specs.laws.EngineLaws.{engine}
 use Rattle.demands.specs.Replay.{carried}
 use Rattle.demands.specs.laws.Ways.{Drops, status, ignored, torn, nothing, Stands, back, bad, cut, Narrow, Fits, Goes, acts, drops, misses, begins, Came, stands, restarts, transfers, came}
 
 -- our mirror on records that are parsed already
-abbrev parsed : Machine Panel Frame Reply
+abbrev parsed : Machine Panel Frame Response
 parsed = record { step = λ p f. outOf (answered f p); sort = λ f r. sortFor (r .answer); bare = settledPanel; Idle = λ p. p .half ≡ Empty }
 
 -- the half that may yet be struck: an ignored one is struck already

@@ -24,22 +24,22 @@ use Rattle.demands.specs.Mirrors.{ours, machineOf}
 use Rattle.demands.specs.laws.EngineLaws.{engine, same-answers, same-panel}
 use Rattle.demands.specs.Answers.{answersBy, panelBy}
 use Rattle.demands.specs.laws.AnswersLaws.{of-run}
-use Rattle.demands.specs.Replay.{Entry, carried, carriedAll, First, none, held, joinedWith, entryOf, entriesBy, firstAfter, takenFrom, takenOf, Replays, AllSomething}
+use Rattle.demands.specs.Replay.{Entry, carried, carriedAll, ReplayHalf, none, held, joinedWith, entryOf, entriesBy, firstAfter, takenFrom, takenOf, Replays, AllSomething}
 use Rattle.demands.specs.laws.Ways.{status, ignored, torn, nothing, back, bad, cut, Narrow, Fits, Goes, acts, drops, misses, begins, Came, stands, restarts, transfers, came}
 
 -- the half that waits in the panel is the one read off the answers
-data Agree : First → Bool → Half → Type 0 where
+data Agree : ReplayHalf → Bool → Half → Type 0 where
   no-half : (eight : Bool) → Agree none eight Empty
   missed : (rs reads : Bool) → Agree none false (Ignored rs reads)
   one : (rs reads : Bool) (bus nibble : ℕ) → (reads ≡ false → nibble ≡ bus / 16) → Agree (held bus) false (Waiting rs reads nibble)
 
-agree-narrow : (first : First) (eight : Bool) (h : Half) → Agree first eight h → Narrow eight h
+agree-narrow : (first : ReplayHalf) (eight : Bool) (h : Half) → Agree first eight h → Narrow eight h
 agree-narrow first eight h (no-half z) e = refl
 agree-narrow first eight h (missed rs reads) e = absurd (true≢false (sym e))
 agree-narrow first eight h (one rs reads bus nibble g) e = absurd (true≢false (sym e))
 
 -- so a transfer's entry, read off the log, is the one carried out
-entry-same : (first : First) (eight : Bool) (h : Half) (rs reads : Bool) (bus : ℕ) → Agree first eight h → Fits eight h reads →
+entry-same : (first : ReplayHalf) (eight : Bool) (h : Half) (rs reads : Bool) (bus : ℕ) → Agree first eight h → Fits eight h reads →
     entryOf rs reads (joinedWith first bus) ≡ entryOf rs reads (joinedOf eight h bus)
 entry-same first eight h rs reads bus (no-half true) f = refl
 entry-same first eight h rs reads bus (no-half false) f = absurd f
@@ -48,12 +48,12 @@ entry-same first eight h rs true bus (one r w high nibble g) f = refl
 entry-same first eight h rs false bus (one r w high nibble g) f = ap (λ n. entryOf rs false (n % 16 * 16 + bus / 16)) (sym (g f))
 
 -- what one record has to show
-record Keeps (first : First) (p : Panel) (f : Frame) (r : Recorded) : Type 0 where
+record Keeps (first : ReplayHalf) (p : Panel) (f : Frame) (r : Recorded) : Type 0 where
   sheet : carriedAll (entriesBy (r .answer) first f) (p .sheet) ≡ r .panel .sheet
   agree : Agree (firstAfter (r .answer) first f) (r .panel .sheet .registers .eight) (r .panel .half)
   something : AllSomething (entriesBy (r .answer) first f)
 
-transfer-keeps : (first : First) (p : Panel) (time : ℕ) (rs reads : Bool) (bus : ℕ) (eight : Bool) (h : Half) (r : Recorded) →
+transfer-keeps : (first : ReplayHalf) (p : Panel) (time : ℕ) (rs reads : Bool) (bus : ℕ) (eight : Bool) (h : Half) (r : Recorded) →
     eight ≡ p .sheet .registers .eight → Agree first eight h → Goes p time rs reads bus eight h r → Keeps first p (frame.Transfer time rs reads bus) r
 transfer-keeps first p time rs reads bus eight h r q g (acts e span byte i s f) =
     let same = entry-same first eight h rs reads bus g f ∙ i in
@@ -70,7 +70,7 @@ transfer-keeps first p time rs reads bus eight h r q g (misses n w) = record { s
 transfer-keeps first p time rs reads bus eight h r q g (begins nibble byte n w v) =
     record { sheet = refl; agree = rw (← q, w) (one rs reads bus nibble v); something = tt }
 
-keeps : (first : First) (p : Panel) (f : Frame) (r : Recorded) → Agree first (p .sheet .registers .eight) (p .half) → Came p f r → Keeps first p f r
+keeps : (first : ReplayHalf) (p : Panel) (f : Frame) (r : Recorded) → Agree first (p .sheet .registers .eight) (p .half) → Came p f r → Keeps first p f r
 keeps first p f r g (stands x a used back) = record { sheet = refl; agree = g; something = tt }
 keeps first p f r g (stands x a used bad) = record { sheet = refl; agree = g; something = tt }
 keeps first p f r g (stands x a used cut) = record { sheet = refl; agree = g; something = tt }
@@ -87,11 +87,11 @@ something-append [] b h k = k
 something-append (e ∷ a) b h k = (h .0, something-append a b (h .1) k)
 
 -- what records have to show, one after another
-record Replayed (first : First) (p : Panel) (fs : List (List ℕ)) : Type 0 where
+record Replayed (first : ReplayHalf) (p : Panel) (fs : List (List ℕ)) : Type 0 where
   sheet : carriedAll (takenFrom first (run (machineOf engine) p fs)) (p .sheet) ≡ final (machineOf engine) p fs .sheet
   something : AllSomething (takenFrom first (run (machineOf engine) p fs))
 
-replayed : (fs : List (List ℕ)) (first : First) (p : Panel) → Agree first (p .sheet .registers .eight) (p .half) → Replayed first p fs
+replayed : (fs : List (List ℕ)) (first : ReplayHalf) (p : Panel) → Agree first (p .sheet .registers .eight) (p .half) → Replayed first p fs
 replayed [] first p g = record { sheet = refl; something = tt }
 replayed (bytes ∷ fs) first p g =
     let f = frameOf bytes in

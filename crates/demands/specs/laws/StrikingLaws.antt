@@ -24,7 +24,7 @@ use Rattle.striking.specs.Machine.{Sort, Answered, events, run, final}
 use Rattle.striking.specs.Striking.{remains, unstruck, struck, Struck}
 use Rattle.striking.specs.Striking.{keptBy as kept}
 use Rattle.striking.specs.laws.StrikingLaws.{striking}
-use Rattle.demands.specs.Mirrors.{Reply, Mirror, ours, sortFor, settledPanel, machineOf}
+use Rattle.demands.specs.Mirrors.{Response, Mirror, ours, sortFor, settledPanel, machineOf}
 use Rattle.demands.specs.Answers.{answersBy, panelBy}
 use Rattle.demands.specs.laws.EngineLaws.{engine, same-run, same-final, same-answers, same-panel}
 use Rattle.demands.specs.laws.AnswersLaws.{of-engine, of-run}
@@ -32,10 +32,10 @@ use Rattle.demands.specs.Striking.{stayed, struckLog, StruckFrom, Strike
 use Rattle.demands.specs.laws.MirrorLaws.{mirror-laws}
 
 -- What goes and what stays, of any mirror
-abbrev told : List ℕ → Answer → ℕ → Answered (List ℕ) Reply
+abbrev told : List ℕ → Answer → ℕ → Answered (List ℕ) Response
 told bytes answer byte = record { event = bytes; answer = record { answer = answer; byte = byte } }
 
-module _ (bytes : List ℕ) (byte : ℕ) (left all : List (Answered (List ℕ) Reply)) where
+module _ (bytes : List ℕ) (byte : ℕ) (left all : List (Answered (List ℕ) Response)) where
   taken-one : (a : Answer) (later : Bool) → takens left ≡ takens all →
       takens (pick (remains (sortFor a .own) later) (told bytes a byte ∷ left) left) ≡ takens (told bytes a byte ∷ all)
   taken-one say.Taken later h = ap (λ l. told bytes say.Taken byte ∷ l) h
@@ -64,16 +64,16 @@ module _ (bytes : List ℕ) (byte : ℕ) (left all : List (Answered (List ℕ) R
   held-one say.Unsound later h = h
 
 module _ (m : Mirror) where
-  abbrev sort : List ℕ → Reply → Sort
+  abbrev sort : List ℕ → Response → Sort
   sort = machineOf m .sort
 
   -- no record that was taken is struck
-  pub taken-stays : (l : List (Answered (List ℕ) Reply)) → takens (unstruck sort l) ≡ takens l
+  pub taken-stays : (l : List (Answered (List ℕ) Response)) → takens (unstruck sort l) ≡ takens l
   taken-stays [] = refl
   taken-stays (a ∷ l) = taken-one (a .event) (a .answer .byte) (unstruck sort l) l (a .answer .answer) (kept sort l) (taken-stays l)
 
   -- and of all others only held ones stay: none that is ignored, unusable or a completed status read
-  pub only-taken-or-held : (l : List (Answered (List ℕ) Reply)) → TakenOrHeld (unstruck sort l)
+  pub only-taken-or-held : (l : List (Answered (List ℕ) Response)) → TakenOrHeld (unstruck sort l)
   only-taken-or-held [] = tt
   only-taken-or-held (a ∷ l) = held-one (a .event) (a .answer .byte) (unstruck sort l) l (a .answer .answer) (kept sort l) (only-taken-or-held l)
 

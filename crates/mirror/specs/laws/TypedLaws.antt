@@ -8,7 +8,7 @@ use Rattle.log.specs.Frame.{dataOf, recordSize}
 use Rattle.log.specs.Frames.{frames}
 use Rattle.log.specs.laws.FramesLaws.{frames-cut, frames-next, frames-induction}
 use Rattle.mirror.specs.Panel.{freshPanel}
-use Rattle.mirror.specs.Answers.{Bytes, Typed, Proper}
+use Rattle.mirror.specs.Answers.{ByteLog, Typed, Proper}
 use Rattle.mirror.specs.laws.SoundParts.{parts}
 use Rattle.mirror.specs.laws.SoundLaws.{Lasts, fresh-lasts, fresh-sound}
 use Rattle.mirror.specs.declared.panel.Panel.{Panel}
@@ -18,16 +18,16 @@ abbrev pub AllData : List (List ℕ) → Type 0
 AllData [] = Unit {0}
 AllData (f ∷ fs) = (dataOf f < 256) × AllData fs
 
-taken-byte : (s : List ℕ) (n i : ℕ) → Bytes s → getD (take n s) i 0 < 256
+taken-byte : (s : List ℕ) (n i : ℕ) → ByteLog s → getD (take n s) i 0 < 256
 taken-byte [] zero i h = omega arith
 taken-byte [] (suc n) i h = omega arith
 taken-byte (x ∷ s) zero i h = omega arith
 taken-byte (x ∷ s) (suc n) zero h = h 0
 taken-byte (x ∷ s) (suc n) (suc i) h = taken-byte s n i (λ j. h (suc j))
 
-pub frames-data : (s : List ℕ) → Bytes s → AllData (frames s)
+pub frames-data : (s : List ℕ) → ByteLog s → AllData (frames s)
 frames-data =
-    frames-induction (λ s. Bytes s → AllData (frames s)) (λ s u h. rw (frames-cut s u) tt)
+    frames-induction (λ s. ByteLog s → AllData (frames s)) (λ s u h. rw (frames-cut s u) tt)
     (λ s u more h. rw (frames-next s u) (taken-byte s (recordSize s) 13 h, more (λ i. rw (getD-drop (recordSize s) s i 0) (h (recordSize s + i)))))
 
 -- so the panel stays sound
