@@ -1,5 +1,5 @@
 -- The instruction table (document 01, "Steps"): what a code asks for.
-use Prim.Native.Nat.{ℕ, _-_, _%_, _/_}
+use Prim.Native.Nat.{ℕ, _%_, _/_}
 use mathlib.Core.Bool.{Bool}
 use lib.Dec.{ltb, eqb}
 use Rattle.laws.specs.Pick.{pick}

@@ -5,7 +5,6 @@ ghost use Rattle.chip.specs.Sheet.{Starts, Steps, StepsDisplay, StepsBot
 ghost use Rattle.chip.specs.Step.{cleared, homed, entered, screenSet, stepped, shifted, functionSet, addressSet, followed, written, passed, acted, obeyed};
 use crate::address::Address;
 use crate::address::DisplayAddress;
-use crate::address::PatternAddress;
 use crate::address::step_round;
 use crate::instruction::Instruction;
 use crate::instruction::decode;

@@ -12,7 +12,6 @@ use Rattle.mirror.specs.Table.{recordOf}
 use Rattle.mirror.specs.Answers.{Typed}
 use Rattle.mirror.specs.Stream.{startOf, panelIn, feedOf, nextOf, endOf, runOf}
 use Rattle.mirror.specs.declared.panel.Panel.{Panel}
-use Rattle.mirror.specs.declared.record.Recorded.{Recorded}
 use Rattle.mirror.specs.declared.stream.Stream.{Stream}
 use Rattle.mirror.specs.declared.stream.Reply.the-variants as next
 use Rattle.mirror.specs.declared.stream.Reply.{Reply}

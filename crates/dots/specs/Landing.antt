@@ -1,10 +1,9 @@
 -- Where a dot lands: row and column to byte and bit, and back. Every order of a frame's bytes is a value of `Landing`.
-use Prim.Native.Nat.{ℕ, _*_, _^_, _<_}
+use Prim.Native.Nat.{ℕ, _<_}
 use mathlib.Core.Path.{_≡_}
 use mathlib.Core.Bool.{Bool, true, _&&_}
 use mathlib.Core.List.{List}
-use lib.ListN.{getD, set}
-use lib.Bits.{bitOr}
+use lib.ListN.{getD}
 use Rattle.dots.specs.Bit.{bit, one, pack}
 use Rattle.dots.specs.Table.{table, sum}
 

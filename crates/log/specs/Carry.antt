@@ -1,9 +1,8 @@
 -- The bytes carried from one part of a log to the next.
-use Prim.Native.Nat.{ℕ, _+_, _-_, _≤_}
-use mathlib.Core.Path.{_≡_}
+use Prim.Native.Nat.{ℕ, _+_, _-_}
 use mathlib.Core.Bool.{_||_}
 use mathlib.Core.List.{List, [], _++_}
-use lib.ListN.{length, take, drop, replicate}
+use lib.ListN.{length, take, replicate}
 use Rattle.laws.specs.Pick.{pick}
 use Rattle.log.specs.Frame.{recordSize, noLength, outsideLength, wantsMore}
 use Rattle.log.specs.declared.carry.Carry.{Carry}

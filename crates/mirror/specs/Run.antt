@@ -1,17 +1,15 @@
 -- A run over a log (document 01, "Counts"): one record after another, until the log is used up or cut.
 use Prim.Native.Nat.{ℕ, _+_, _-_, _^_}
 use mathlib.Core.List.{List, [], _∷_}
-use lib.ListN.{length, getD, set, replicate}
+use lib.ListN.{getD, set, replicate}
 use lib.Dec.{ltb}
 use Rattle.laws.specs.Pick.{pick}
-use Rattle.log.specs.Frames.{frames, tail}
 use Rattle.mirror.specs.Answer.{numberOf}
 use Rattle.mirror.specs.Table.{rowFor}
 use Rattle.mirror.specs.declared.answer.Answer.{Answer}
 use Rattle.mirror.specs.declared.panel.Panel.{Panel}
 use Rattle.mirror.specs.declared.record.Recorded.{Recorded}
 use Rattle.mirror.specs.declared.totals.Totals.{Totals}
-use Rattle.mirror.specs.declared.totals.Consumed.{Consumed}
 
 -- a count's greatest number, at which it stays
 abbrev pub mostCount : ℕ

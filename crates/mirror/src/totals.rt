@@ -1,6 +1,5 @@
 // What a run has come to, and the loop over the records of a log.
 ghost use mathlib.Core.Path.{_≡_};
-ghost use lib.ListN.{replicate};
 ghost use Rattle.mirror.specs.Run.{tallied, started, counted};
 ghost use Rattle.mirror.specs.engine.Reading.{consumedOf};
 use crate::answer::Answer;

@@ -1,6 +1,5 @@
 -- The frame and where a dot lands (document 01, "The picture").
-use Prim.Native.Nat.{ℕ, _*_, _/_, _<_}
-use mathlib.Core.Path.{_≡_}
+use Prim.Native.Nat.{ℕ, _*_, _/_}
 use mathlib.Core.Bool.{Bool, false, not}
 use mathlib.Core.List.{List}
 use lib.Dec.{leb, eqb}
@@ -10,7 +9,6 @@ use Rattle.dots.specs.Landing.{Landing, dot}
 use Rattle.dots.specs.ByRows.{byRows}
 use Rattle.chip.specs.Sizes.{lines, positions}
 use Rattle.picture.specs.Pattern.{tall, wide}
-use Rattle.picture.specs.declared.frame.Place.{Place}
 
 -- 80 dots of a row are 10 bytes
 abbrev pub bytesAcross : ℕ

@@ -7,7 +7,6 @@ use native.Mathlib.Omega.{arith}
 use native.Mathlib.Nat.{mod-lt, mod-mod}
 use lib.ListN.{length, getD, set}
 use lib.Seq.{getD-set-same, getD-set-other}
-use Rattle.laws.specs.Pick.{pick}
 use Rattle.chip.specs.Sizes.{displaySize, patternSize, rowEnd}
 use Rattle.chip.specs.Address.{readDisplay, writtenDisplay, readPattern, writtenPattern, addressNumber}
 use Rattle.chip.specs.Step.{homed, cleared, entered, screenSet, stepped, shifted, functionSet, addressSet, storedAt, followed, writtenAt, written, passed}

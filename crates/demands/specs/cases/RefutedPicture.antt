@@ -1,20 +1,15 @@
 -- THE WRONG PAINTER that document 01 lists ("These must not pass"): one that invents lit dots.
 use Prim.Native.Nat.{ℕ}
 use native.Mathlib.Omega.{arith}
-use mathlib.Core.Path.{_≡_, refl, sym, ap, _∙_}
-use mathlib.Core.Bool.{Bool, true, false}
-use mathlib.Core.List.{List}
-use lib.ListN.{length, replicate}
+use mathlib.Core.Path.{_≡_, refl, sym, _∙_}
+use mathlib.Core.Bool.{false}
+use lib.ListN.{replicate}
 use Rattle.dots.specs.Landing.{countOf}
 use Rattle.dots.specs.Table.{table, sum}
-use Rattle.mirror.specs.Panel.{soundPanel}
 use Rattle.mirror.specs.Stream.{runOf}
-use Rattle.mirror.specs.declared.panel.Panel.{Panel}
-use Rattle.picture.specs.Frame.{glass}
-use Rattle.picture.specs.Paint.{paintPaper, paintedOf}
+use Rattle.picture.specs.Paint.{paintedOf}
 use Rattle.picture.specs.Pattern.{fontSize}
 use Rattle.picture.specs.Picture.{lit}
-use Rattle.picture.specs.declared.paint.Painted.{Painted}
 use Rattle.picture.specs.declared.paint.Painted.the-variants.{Lit}
 use Rattle.demands.specs.PictureRules.{CountsDots}
 use Rattle.demands.specs.cases.Logs.{answering, instructAt, casePanel}

@@ -1,10 +1,10 @@
 -- The chain from theorem to function holds.
-use Prim.Native.Nat.{ℕ, zero, suc, _+_, _≤_, _<_}
+use Prim.Native.Nat.{ℕ, zero, suc, _+_, _≤_}
 use native.Mathlib.Omega.{arith}
 use mathlib.Core.Path.{_≡_, refl, sym, ap, subst, _∙_}
 use mathlib.Core.Bool.{Bool, true, false}
 use mathlib.Core.List.{List, [], _∷_, _++_, append-nil, append-assoc}
-use lib.ListN.{length, getD, take, drop, length-drop}
+use lib.ListN.{length, take, drop, length-drop}
 use lib.Seq.{getD-drop}
 use lib.Dec.{eqb}
 use borrow.Author.Tests.{eqb-true, eqb-false}
@@ -13,7 +13,7 @@ use Rattle.log.specs.Frame.{frameOf, recordSize, cutAt, wholeSize, wantsMore}
 use Rattle.log.specs.Frames.{frames, tail, joined}
 use Rattle.log.specs.laws.CutLaws.{none-want, wants-cut}
 use Rattle.log.specs.laws.FrontLaws.{uncut-front}
-use Rattle.log.specs.laws.FrameLaws.{frame-take, size-whole, cut-frame}
+use Rattle.log.specs.laws.FrameLaws.{frame-take, size-whole}
 use Rattle.log.specs.laws.FramesLaws.{frames-cut, tail-cut, frames-next}
 use Rattle.log.specs.Carry.{more, filled}
 use Rattle.mirror.specs.Panel.{soundPanel, freshPanel}
@@ -22,11 +22,11 @@ use Rattle.mirror.specs.Table.{recordOf}
 use Rattle.mirror.specs.laws.TableLaws.{answered-sound}
 use Rattle.mirror.specs.laws.SoundParts.{whole}
 use Rattle.mirror.specs.laws.SoundLaws.{Lasts, record-lasts}
-use Rattle.mirror.specs.Answers.{ByteLog, Proper, panelAfter}
+use Rattle.mirror.specs.Answers.{ByteLog, Proper}
 use Rattle.mirror.specs.laws.TypedLaws.{proper-lasts, typed-proper}
 use Rattle.mirror.specs.Run.{started, onward}
 use Rattle.mirror.specs.laws.RunLaws.{answered-used, cut-used, uncut-used}
-use Rattle.mirror.specs.Stream.{startAs, startOf, panelIn, waitingBytes, restedOf, feedOf, nextOf, endOf, runOf}
+use Rattle.mirror.specs.Stream.{startAs, startOf, waitingBytes, restedOf, feedOf, nextOf, endOf, runOf}
 use Rattle.mirror.specs.laws.StreamLaws.{fed, feed-append, feed-run}
 use Rattle.mirror.specs.laws.NextLaws.{next-over}
 use Rattle.mirror.specs.laws.AskedLaws.{one-record, taken-part, accepted, stands-at, frames-over, stream-over, frames-more, stream-more, cut-next, whole-next}
@@ -35,9 +35,8 @@ use Rattle.mirror.specs.declared.record.Recorded.{Recorded}
 use Rattle.mirror.specs.declared.stream.Stream.{Stream}
 use Rattle.mirror.specs.declared.stream.Next.{Next}
 use Rattle.mirror.specs.declared.stream.Reply.the-variants.{More, Cut}
-use Rattle.striking.specs.Machine.{Answered, run, final}
-use Rattle.striking.specs.Machine as machine
-use Rattle.demands.specs.Mirrors.{Response, outOf, ours, machineOf}
+use Rattle.striking.specs.Machine.{run, final}
+use Rattle.demands.specs.Mirrors.{Response, outOf, machineOf}
 use Rattle.demands.specs.Answers.{answersBy, panelBy}
 use Rattle.demands.specs.laws.EngineLaws.{engine, same-answers, same-panel}
 use Rattle.demands.specs.laws.AnswersLaws.{onward-panel, of-run}

@@ -7,7 +7,6 @@ use prog.Memory.{Memory}
 use prog.Routine.{Routine}
 use ghost.Atoms.{Atoms}
 use contract.Monad.{Fun}
-use denote.Ref.{now}
 use Rattle.mirror.proofs.answer.Answer.number as answer·number
 use Rattle.mirror.proofs.half.Half.fits as half·fits
 use Rattle.mirror.proofs.panel.Panel.fresh as panel·fresh

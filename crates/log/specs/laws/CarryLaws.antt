@@ -6,7 +6,7 @@ use mathlib.Core.Path.{_≡_, refl, sym, ap, _∙_}
 use mathlib.Core.Bool.{Bool, true, false, _||_}
 use mathlib.Core.List.{List, [], _∷_, _++_, append-assoc}
 use lib.ListN.{length, take, drop, replicate, length-append, length-take}
-use lib.Seq.{length-take-le, take-all, take-append-seam, drop-append-add, paste}
+use lib.Seq.{take-all, take-append-seam, drop-append-add, paste}
 use lib.Dec.{leb, eqb}
 use borrow.Author.Tests.{leb-true, leb-false, le-ltb, ne-eqb}
 use Rattle.laws.specs.Pick.{pick}

@@ -15,7 +15,7 @@ use Rattle.chip.specs.laws.WidthLaws.{obeyed-width, written-width}
 use Rattle.mirror.specs.Panel.{freshPanel, halfFits, soundPanel}
 use Rattle.mirror.specs.Words.{joinedOf, free}
 use Rattle.mirror.specs.laws.SoundParts.{parts, whole}
-use Rattle.mirror.specs.Table.{waits, isFirst, differs, isStatus, busyAt, isNone, byteOf, sourceOf, heldHalf, panelFor}
+use Rattle.mirror.specs.Table.{waits, differs, isStatus, busyAt, byteOf, sourceOf, heldHalf, panelFor}
 use Rattle.mirror.specs.Answers.{answerTo, panelAfter}
 use Rattle.mirror.specs.laws.TableCase.{answer-case, each-row}
 use Rattle.mirror.specs.Case.{Case}

@@ -1,20 +1,16 @@
 -- Laws of one record that the engine's proofs cite.
 use Prim.Native.Nat.{ℕ, _%_}
-use mathlib.Core.Path.{_≡_, sym, ap, _∙_}
-use mathlib.Core.Bool.{Bool, true, false}
+use mathlib.Core.Path.{_≡_, ap, _∙_}
+use mathlib.Core.Bool.{Bool}
 use mathlib.Core.List.{List}
 use lib.Dec.{leb}
-use Rattle.laws.specs.Pick.{pick}
-use Rattle.log.specs.Frame.{frameOf}
 use Rattle.chip.specs.Sheet.{sheetOf, readHere}
 use Rattle.chip.specs.declared.registers.Registers.{Registers}
 use Rattle.chip.specs.declared.sheet.Sheet.{Sheet}
-use Rattle.mirror.specs.Panel.{soundPanel}
 use Rattle.mirror.specs.engine.Way.{Way, firstOf, wayOf}
 use Rattle.mirror.specs.engine.Live.{panelOf}
 use Rattle.mirror.specs.Words.{joinedOf, free, holding, done, high}
-use Rattle.mirror.specs.engine.Record.{recorded, went, transferred, answered}
-use Rattle.mirror.specs.Table.{recordOf}
+use Rattle.mirror.specs.engine.Record.{recorded, went, transferred}
 use Rattle.mirror.specs.declared.answer.Answer.{Answer}
 use Rattle.mirror.specs.declared.answer.Answer.the-variants as say
 use Rattle.mirror.specs.declared.half.Half.the-variants.{Waiting}

@@ -12,7 +12,7 @@ use borrow.Author.Tests.{ltb-true, ltb-false, lt-ltb, le-ltb}
 use Rattle.laws.specs.Pick.{pick}
 use Rattle.log.specs.Frame.{frameOf, cutAt, wantsMore, recordSize}
 use Rattle.log.specs.laws.CutLaws.{broken, cut-either, cut-one, none-want, broken-append, wants-cut}
-use Rattle.log.specs.Frames.{Pieces, then, frames, tail, joined}
+use Rattle.log.specs.Frames.{Pieces, frames, tail, joined}
 use Rattle.log.specs.laws.FrontLaws.{uncut-front}
 use Rattle.log.specs.laws.FrameLaws.{cut-frame, frame-cut}
 use Rattle.log.specs.laws.FramesLaws.{frames-cut, tail-cut, tail-next, joined-frames, tail-is-cut, pieces-append, pieces-broken, record-first}

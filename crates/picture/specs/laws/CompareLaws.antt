@@ -1,5 +1,5 @@
 -- What the answers of a comparison mean.
-use Prim.Native.Nat.{ℕ, zero, suc, _+_, _<_}
+use Prim.Native.Nat.{ℕ, zero, suc, _+_}
 use mathlib.Core.Path.{_≡_, refl, subst, ap, ap₂, _∙_}
 use mathlib.Core.Bool.{Bool, true, false, not}
 use mathlib.Core.List.{List}
@@ -13,9 +13,8 @@ use Rattle.dots.specs.Landing.{dot}
 use Rattle.dots.specs.laws.LandingLaws.{Bytes, same-bytes}
 use Rattle.dots.specs.First.{first, firstDot}
 use Rattle.dots.specs.laws.FirstLaws.{first-dot-says}
-use Rattle.dots.specs.First.{Before}
 use Rattle.picture.specs.Frame.{glass}
-use Rattle.picture.specs.Compare.{Compares, ComparePaper, comparePaper, differ, placeFor, comparedOf, FirstDifference, SameDots, Means}
+use Rattle.picture.specs.Compare.{Compares, comparePaper, differ, placeFor, comparedOf, FirstDifference, SameDots, Means}
 use Rattle.picture.specs.declared.compare.Compared.{Compared}
 use Rattle.picture.specs.declared.compare.Compared.the-variants.{At, Same, Size}
 

@@ -23,7 +23,7 @@ use Rattle.chip.specs.Sizes.{lines, positions}
 use Rattle.picture.specs.Picture.{lit}
 use Rattle.picture.specs.engine.Shown.{PutsLine, lineDot}
 use Rattle.picture.specs.laws.ShownLaws.{shown-lit}
-use Rattle.picture.specs.Paint.{Paints, PaintPaper, paintPaper, dotsFor, paintedOf, frameAfter}
+use Rattle.picture.specs.Paint.{Paints, paintPaper, dotsFor, paintedOf, frameAfter}
 use Rattle.picture.specs.declared.paint.Painted.{Painted}
 use Rattle.picture.specs.declared.paint.Painted.the-variants.{Lit, Size, Unsound}
 

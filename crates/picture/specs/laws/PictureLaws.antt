@@ -12,7 +12,7 @@ use Rattle.chip.specs.Sizes.{rowEnd}
 use Rattle.chip.specs.Sheet.{withPattern}
 use Rattle.chip.specs.Step.{functionSet}
 use Rattle.chip.specs.declared.sheet.Sheet.{Sheet}
-use Rattle.picture.specs.Pattern.{tall, wide, patterns, fontStart, patternRow, glyphRow, patternOf, glyphOf, shapeOf}
+use Rattle.picture.specs.Pattern.{tall, wide, fontStart, patternRow, glyphRow, patternOf, glyphOf, shapeOf}
 use Rattle.picture.specs.Picture.{codeAt, shapeAt, patternDot, atCursor, cursorRow, cursorDot, blinkDot, lit}
 
 module _ (s : Sheet) (font : List ℕ) (dark : Bool) (r x : ℕ) where

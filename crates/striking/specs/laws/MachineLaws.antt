@@ -1,7 +1,7 @@
 -- A run in parts, and the records of a run.
 use mathlib.Core.Path.{_≡_, refl, ap}
 use mathlib.Core.List.{List, [], _∷_, _++_}
-use Rattle.striking.specs.Machine.{Machine, Answered, answered, events, run, final}
+use Rattle.striking.specs.Machine.{Machine, answered, events, run, final}
 
 module _ {S E A : Type 0} (m : Machine S E A) where
   -- a run on a log is the runs on its parts, the second from where the first ends

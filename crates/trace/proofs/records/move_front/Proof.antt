@@ -1,8 +1,6 @@
 -- Before i the bytes are those from `at` on; from i on they are as they were.
 use Prim.Native.Nat.{_-_}
-use mathlib.Core.Path.{refl}
 use native.Mathlib.Omega.{arith}
-use denote.Ref.{now}
 use Rattle.trace.specs.laws.RecordsLaws.{Moving, move-start, move-step, move-end}
 use borrow.Author.Needs.{needs}
 use Rattle.trace.proofs.records.move_front.Statement.{statement}
