@@ -49,10 +49,10 @@ strung h (suc n) = strung h n ++ h n
 abbrev pub barred : List ℕ → List ℕ
 barred s = (124 ∷ s) ++ (124 ∷ 10 ∷ [])
 
--- a row of dots from the left
-abbrev pub rowBytes : List ℕ → ℕ → List ℕ
-rowBytes f r = barred (strung (λ x. markOf (litAt f r x) ∷ []) (glass .cols))
+-- what a line shows of column x: a mark for the dot of row r, or a block for it and the one below it
+abbrev pub columnBytes : Bool → List ℕ → ℕ → ℕ → List ℕ
+columnBytes pairs f r x = pick pairs (pairOf (litAt f r x) (litAt f (r + 1) x)) (markOf (litAt f r x) ∷ [])
 
--- a row of dots and the one below it
-abbrev pub pairBytes : List ℕ → ℕ → List ℕ
-pairBytes f r = barred (strung (λ x. pairOf (litAt f r x) (litAt f (r + 1) x)) (glass .cols))
+-- a line: the columns from the left
+abbrev pub lineBytes : Bool → List ℕ → ℕ → List ℕ
+lineBytes pairs f r = barred (strung (columnBytes pairs f r) (glass .cols))

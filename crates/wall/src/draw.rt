@@ -3,7 +3,8 @@ ghost use Prim.Native.Nat.{_<_};
 ghost use mathlib.Core.Path.{_≡_};
 ghost use Rattle.desk.specs.Page.{Puts};
 ghost use Rattle.picture.specs.Frame.{glass};
-ghost use Rattle.wall.specs.Draw.{markOf, pairBytes, pairOf, pictureOf, rowBytes};
+ghost use Rattle.wall.specs.Draw.{columnBytes, lineBytes, markOf, pairOf, pictureOf};
+ghost use Rattle.wall.specs.engine.Lines.{RowsShown};
 use desk::bytes::Bytes;
 use desk::bytes::held;
 use desk::page::PAGE;
@@ -15,9 +16,6 @@ use picture::frame::FRAME_SIZE;
 use picture::frame::ROWS;
 use picture::frame::lit_at;
 use picture::paint::paint;
-
-// Pairs of rows, one above the other.
-const PAIRS: usize = ROWS / 2;
 
 // The frame of a panel; no dot is lit where the painter refuses.
 pub(crate) fn painted(panel: Panel, font: Bytes, dark: bool) -> [u8; FRAME_SIZE]
@@ -52,27 +50,40 @@ fn put_pair(page: &mut [u8; PAGE], at: usize, upper: bool, lower: bool) -> usize
     put(page, at, b" ")
 }
 
-// A row of dots.
-fn put_row(page: &mut [u8; PAGE], at: usize, frame: [u8; FRAME_SIZE], row: usize) -> usize
-    ensures { λ r. ⌜ Puts (rowBytes frame row) (now (page .entry)) at (now (page .exit)) r ⌝ }
+// What a line shows of a column: a mark for its dot, or a block for it and the one below it.
+fn put_column(
+    page: &mut [u8; PAGE],
+    at: usize,
+    frame: [u8; FRAME_SIZE],
+    row: usize,
+    column: usize,
+    pairs: bool,
+) -> usize
+    requires { ⌜ row < glass .rows ⌝ }
+    ensures { λ r. ⌜ Puts (columnBytes pairs frame row column) (now (page .entry)) at (now (page .exit)) r ⌝ }
 {
-    let mut end = put(page, at, b"|");
-    for column in 0..COLUMNS {
-        end = put(page, end, &[mark(lit_at(&frame, row, column))]);
+    let upper = lit_at(&frame, row, column);
+    if pairs {
+        let lower = lit_at(&frame, row + 1, column);
+        return put_pair(page, at, upper, lower);
     }
-    put(page, end, b"|\n")
+    put(page, at, &[mark(upper)])
 }
 
-// A row of dots and the one below it.
-fn put_rows(page: &mut [u8; PAGE], at: usize, frame: [u8; FRAME_SIZE], row: usize) -> usize
+// A line, between its two sides.
+fn put_line(
+    page: &mut [u8; PAGE],
+    at: usize,
+    frame: [u8; FRAME_SIZE],
+    row: usize,
+    pairs: bool,
+) -> usize
     requires { ⌜ row < glass .rows ⌝ }
-    ensures { λ r. ⌜ Puts (pairBytes frame row) (now (page .entry)) at (now (page .exit)) r ⌝ }
+    ensures { λ r. ⌜ Puts (lineBytes pairs frame row) (now (page .entry)) at (now (page .exit)) r ⌝ }
 {
     let mut end = put(page, at, b"|");
     for column in 0..COLUMNS {
-        let upper = lit_at(&frame, row, column);
-        let lower = lit_at(&frame, row + 1, column);
-        end = put_pair(page, end, upper, lower);
+        end = put_column(page, end, frame, row, column, pairs);
     }
     put(page, end, b"|\n")
 }
@@ -85,23 +96,22 @@ fn put_edge(page: &mut [u8; PAGE], at: usize) -> usize {
     )
 }
 
-// One line for each row of dots.
-pub(crate) fn draw_rows(frame: [u8; FRAME_SIZE]) {
-    let mut page = [0u8; PAGE];
-    let mut end = put_edge(&mut page, 0);
-    for row in 0..ROWS {
-        end = put_row(&mut page, end, frame, row);
-    }
-    end = put_edge(&mut page, end);
-    write_out(&page, end);
+// How many rows of dots a line shows.
+fn rows_shown(pairs: bool) -> usize
+    ensures { λ r. ⌜ RowsShown pairs r ⌝ }
+{
+    if pairs { 2 } else { 1 }
 }
 
-// One line for each two rows of dots.
-pub(crate) fn draw_pairs(frame: [u8; FRAME_SIZE]) {
+// One line for each row of dots, or for each two.
+pub(crate) fn draw(frame: [u8; FRAME_SIZE], pairs: bool) {
     let mut page = [0u8; PAGE];
     let mut end = put_edge(&mut page, 0);
-    for pair in 0..PAIRS {
-        end = put_rows(&mut page, end, frame, 2 * pair);
+    let shown = rows_shown(pairs);
+    let mut row = 0;
+    while row < ROWS {
+        end = put_line(&mut page, end, frame, row, pairs);
+        row += shown;
     }
     end = put_edge(&mut page, end);
     write_out(&page, end);

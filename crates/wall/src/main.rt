@@ -20,8 +20,7 @@ use desk::print::complain;
 use desk::times::LONG;
 use desk::times::RESET;
 use desk::times::SHORT;
-use draw::draw_pairs;
-use draw::draw_rows;
+use draw::draw;
 use draw::painted;
 use mirror::panel::Panel;
 use mirror::stream::Stream;
@@ -77,11 +76,7 @@ fn font_at(place: usize) -> Bytes {
 fn show_glass(frame: [u8; FRAME_SIZE], panel: Panel, ascii: bool) {
     let sheet = panel.sheet;
     let registers = sheet.registers;
-    if ascii {
-        draw_rows(frame);
-    } else {
-        draw_pairs(frame);
-    }
+    draw(frame, !ascii);
     let line = codes(sheet);
     show_text(line);
     show_codes(line);

@@ -1,25 +1,29 @@
-use Prim.Native.Nat.{_-_, _≤_}
+use Prim.Native.Nat.{_-_}
 use mathlib.Core.Path.{_≡_}
 use lib.ListN.{length}
 use Rattle.picture.specs.Frame.{glass}
+use Rattle.wall.specs.engine.Lines.{RowsShown}
 use borrow.Author.Needs.{needs}
-use Rattle.wall.proofs.draw.draw_rows.Statement.{statement}
-use Rattle.wall.proofs.draw.draw_rows.Tie as tie
+use Rattle.wall.proofs.draw.draw.Statement.{statement}
+use Rattle.wall.proofs.draw.draw.Tie as tie
 
 abbrev Inv-loop : tie.InvT-loop
-Inv-loop frame page₀ end₀ row₀ page end row = (length frame ≡ glass .size) × (row ≤ glass .rows)
+Inv-loop frame pairs page₀ end₀ shown row₀ page end row = (length frame ≡ glass .size) × RowsShown pairs shown
 
 abbrev μ-loop : tie.MeasureT-loop
-μ-loop frame page₀ end₀ row₀ page end row = glass .rows - row
+μ-loop frame pairs page₀ end₀ shown row₀ page end row = glass .rows - row
 
 put-edge-requires : tie.Need-put-edge-requires Inv-loop μ-loop
 put-edge-requires c κs = search needs
 
+rows-shown-requires : tie.Need-rows-shown-requires Inv-loop μ-loop
+rows-shown-requires c κs = search needs
+
 loop-holds : tie.Need-loop-holds Inv-loop μ-loop
 loop-holds c = search needs
 
-put-row-requires : tie.Need-put-row-requires Inv-loop μ-loop
-put-row-requires c κs = search needs
+put-line-requires : tie.Need-put-line-requires Inv-loop μ-loop
+put-line-requires c κs = search needs
 
 add-row : tie.Need-add-row Inv-loop μ-loop
 add-row c = search needs
@@ -39,15 +43,16 @@ write-out-requires c κs = search needs
 returns : tie.Need-returns Inv-loop μ-loop
 returns c = search needs
 
-pub draw-rows-spec : {M : Type 1} → statement M
-draw-rows-spec =
+pub draw-spec : {M : Type 1} → statement M
+draw-spec =
     tie.close
     (tie.spec
     Inv-loop
     μ-loop
     put-edge-requires
+    rows-shown-requires
     loop-holds
-    put-row-requires
+    put-line-requires
     add-row
     loop-less
     loop-again

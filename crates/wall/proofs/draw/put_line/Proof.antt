@@ -1,0 +1,67 @@
+use Prim.Native.Nat.{_-_, _≤_}
+use mathlib.Core.Path.{_≡_}
+use native.Mathlib.Omega.{arith}
+use Rattle.picture.specs.Frame.{glass}
+use Rattle.wall.specs.Draw.{columnBytes, strung}
+use Rattle.wall.specs.laws.DrawLaws.{strung-none, strung-more}
+use Rattle.desk.specs.Page.{Puts}
+use Rattle.desk.specs.laws.PageLaws.{puts-then}
+use borrow.Author.Needs.{needs}
+use Rattle.wall.proofs.draw.put_line.Statement.{statement}
+use Rattle.wall.proofs.draw.put_line.Tie as tie
+
+abbrev Inv-loop : tie.InvT-loop
+Inv-loop page₀ at frame row pairs end₀ column₀ t9 page end column = Puts (strung (columnBytes pairs frame row) column) page₀ end₀ page end × (column ≤ glass .cols)
+
+abbrev μ-loop : tie.MeasureT-loop
+μ-loop page₀ at frame row pairs end₀ column₀ t9 page end column = glass .cols - column
+
+slice-aggregate-put : tie.Need-slice-aggregate-put Inv-loop μ-loop
+slice-aggregate-put c = search needs
+
+put-requires : tie.Need-put-requires Inv-loop μ-loop
+put-requires c κs = search needs
+
+loop-holds : tie.Need-loop-holds Inv-loop μ-loop
+loop-holds c = (strung-none _ _ _, omega arith)
+
+put-column-requires : tie.Need-put-column-requires Inv-loop μ-loop
+put-column-requires c κs = search needs
+
+add-column : tie.Need-add-column Inv-loop μ-loop
+add-column c = search needs
+
+loop-less : tie.Need-loop-less Inv-loop μ-loop
+loop-less c = search needs
+
+loop-again : tie.Need-loop-again Inv-loop μ-loop
+loop-again c = (strung-more _ _ _ _ _ _ _ _ (c .before .before .before .loop .inv .0) (c .put-column .ensures), omega arith)
+
+slice-aggregate-put-2 : tie.Need-slice-aggregate-put-2 Inv-loop μ-loop
+slice-aggregate-put-2 c = search needs
+
+put-requires-2 : tie.Need-put-requires-2 Inv-loop μ-loop
+put-requires-2 c κs = search needs
+
+returns : tie.Need-returns Inv-loop μ-loop
+returns c =
+    let l = c .before .before .before .before .loop in
+    let e : l .column ≡ glass .cols = omega arith in
+    puts-then _ _ _ _ _ _ _ _ (puts-then _ _ _ _ _ _ _ _ (c .before .before .before .before .before .put .ensures) (rw e at (l .inv .0))) (c .put2 .ensures)
+
+pub put-line-spec : {M : Type 1} → statement M
+put-line-spec =
+    tie.close
+    (tie.spec
+    Inv-loop
+    μ-loop
+    slice-aggregate-put
+    put-requires
+    loop-holds
+    put-column-requires
+    add-column
+    loop-less
+    loop-again
+    slice-aggregate-put-2
+    put-requires-2
+    returns)
