@@ -13,5 +13,5 @@ pub const PATTERN_SIZE: usize = 32;
 // A row of a pattern is five dots, a number below this.
 pub const ROW_END: u8 = 32;
 
-// So are the Function Set bits that are kept, which are four.
+// The Function Set bits that are kept are four, a number below this.
 pub const FUNCTION_END: u8 = 16;
