@@ -1,9 +1,12 @@
 -- The answers of a log, and the panel at its end: what every demand on a whole log is stated of.
 use Prim.Native.Nat.{ℕ}
+use mathlib.Core.Path.{_≡_}
 use mathlib.Core.List.{List, [], _∷_}
+use lib.ListN.{replicate}
 use Rattle.log.specs.Frames.{frames}
 use Rattle.mirror.specs.Answer.{numberOf}
 use Rattle.mirror.specs.Run.{tallied}
+use Rattle.mirror.specs.Stream.{runOf}
 use Rattle.mirror.specs.declared.panel.Panel.{Panel}
 use Rattle.striking.specs.Machine.{Answered, run, final}
 use Rattle.demands.specs.Mirrors.{Response, Mirror, machineOf}
@@ -25,3 +28,8 @@ countsOf counts (a ∷ rest) = countsOf (tallied counts (a .answer .answer)) res
 abbrev pub numbers : List (Answered (List ℕ) Response) → List ℕ
 numbers [] = []
 numbers (a ∷ rest) = numberOf (a .answer .answer) ∷ numbers rest
+
+-- THE ANSWERS OF A RUN: its panel and its counts are theirs
+pub record OfRun (m : Mirror) (p : Panel) (log : List ℕ) : Type 0 where
+  pub panel : runOf p log .panel ≡ panelBy m p log
+  pub counts : runOf p log .counts ≡ countsOf (replicate 8 0) (answersBy m p log)

@@ -3,7 +3,7 @@ use Prim.Native.Nat.{ℕ, zero, suc}
 use mathlib.Core.Path.{_≡_}
 use mathlib.Core.Bool.{true}
 use mathlib.Core.List.{List, [], _∷_, _++_}
-use lib.ListN.{length, take, drop, replicate}
+use lib.ListN.{length, take, drop}
 use lib.Dec.{eqb}
 use Rattle.laws.specs.Pick.{pick}
 use Rattle.log.specs.Frames.{joined}
@@ -17,7 +17,7 @@ use Rattle.mirror.specs.declared.stream.Reply.the-variants as next
 use Rattle.mirror.specs.declared.stream.Reply.{Reply}
 use Rattle.striking.specs.Machine.{Answered}
 use Rattle.demands.specs.Mirrors.{Response, outOf, ours}
-use Rattle.demands.specs.Answers.{answersBy, panelBy, countsOf}
+use Rattle.demands.specs.Answers.{answersBy, panelBy, OfRun}
 
 -- what each record was told
 abbrev pub told : List (Answered (List ℕ) Response) → List Response
@@ -65,8 +65,7 @@ pub record Chain (p : Panel) (log : List ℕ) : Type 0 where
   pub left : leftOf (length log) p log ≡ panelBy ours p log
   pub nexts : (replies : List Response) (st : Stream) → Asked p log replies st → replies ≡ told (answersBy ours p log)
   pub stands : (replies : List Response) (st : Stream) → Asked p log replies st → panelIn st ≡ panelBy ours p log
-  pub panel : runOf p log .panel ≡ panelBy ours p log
-  pub counts : runOf p log .counts ≡ countsOf (replicate 8 0) (answersBy ours p log)
+  pub whole : OfRun ours p log
   pub parts : (parts : List (List ℕ)) → joined parts ≡ log → endOf (fedAll (startOf p) parts) ≡ runOf p log
 
 -- THE CHAIN: from a fresh panel of any three times that the type holds, for every log made of bytes

@@ -14,8 +14,8 @@ use Rattle.mirror.specs.declared.panel.Panel.{Panel}
 use Rattle.mirror.specs.declared.record.Recorded.{Recorded}
 use Rattle.mirror.specs.declared.totals.Totals.{Totals}
 use Rattle.striking.specs.Machine.{run, final}
-use Rattle.demands.specs.Mirrors.{Mirror, ours, machineOf}
-use Rattle.demands.specs.Answers.{answersBy, panelBy, countsOf}
+use Rattle.demands.specs.Mirrors.{ours, machineOf}
+use Rattle.demands.specs.Answers.{countsOf, OfRun}
 use Rattle.demands.specs.laws.EngineLaws.{engine, same-answers, same-panel}
 
 -- a run's records one after another are the answers
@@ -32,11 +32,7 @@ onward-counts t (f ∷ fs) =
     onward-counts (advanced t f) fs
     ∙ ap (λ (r : Recorded). countsOf (tallied (t .counts) (r .answer)) (run (machineOf engine) (r .panel) fs)) (sym (answered-row (t .panel) f))
 
--- THE ANSWERS OF A RUN: its panel and its counts
-pub record OfRun (m : Mirror) (p : Panel) (log : List ℕ) : Type 0 where
-  pub panel : runOf p log .panel ≡ panelBy m p log
-  pub counts : runOf p log .counts ≡ countsOf (replicate 8 0) (answersBy m p log)
-
+-- a run's panel and counts are those of the answers
 pub of-engine : (p : Panel) (log : List ℕ) → soundPanel p ≡ true → OfRun engine p log
 unfolding runOf
 of-engine p log e =

@@ -244,15 +244,13 @@ chain p log h =
     let c = all-calls (length log) p log (omega arith) (proper-lasts h) (h .bytes) in
     let a = ap told (same-answers p log h) in
     let q = same-panel p log h in
-    let r = of-run p log h in
     record {
       calls = c .replies ∙ a;
       left = c .panel ∙ q;
       nexts = λ replies st x. told-all p (h .sound) x .replies-are ∙ a;
       stands = λ replies st x. let t = told-all p (h .sound) x .stream in
           ap (λ b. pick b (st .given) (st .totals .panel)) (accepted p log st t) ∙ stands-at p log st t ∙ onward-panel (started p) (frames log) ∙ q;
-      panel = r .panel;
-      counts = r .counts;
+      whole = of-run p log h;
       parts = λ parts e. fed-run p parts ∙ ap (runOf p) e;
     }
 

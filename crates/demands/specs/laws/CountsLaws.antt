@@ -33,8 +33,8 @@ use Rattle.mirror.specs.declared.record.Recorded.{Recorded}
 use Rattle.striking.specs.Machine.{Answered, run}
 use Rattle.demands.specs.Mirrors.{Response, Mirror, ours, machineOf}
 use Rattle.demands.specs.laws.EngineLaws.{engine}
-use Rattle.demands.specs.Answers.{answersBy, countsOf, numbers}
-use Rattle.demands.specs.laws.AnswersLaws.{OfRun, of-engine, of-run}
+use Rattle.demands.specs.Answers.{answersBy, countsOf, numbers, OfRun}
+use Rattle.demands.specs.laws.AnswersLaws.{of-engine, of-run}
 use Rattle.demands.specs.Rules.{occurrences, InMemory, Counts, CountsRecords, AddsUp}
 
 -- EACH COUNT. One answer more
