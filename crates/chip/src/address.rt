@@ -7,6 +7,7 @@ ghost use Rattle.chip.specs.Address.{movedDisplay, movedPattern, movedAd
 use crate::sizes::DISPLAY_SIZE;
 use crate::sizes::PATTERN_SIZE;
 use crate::sizes::ROW_END;
+use crate::sizes::places;
 
 pub struct DisplayAddress(pub u8);
 
@@ -30,24 +31,25 @@ pub fn step_round(at: u8, last: u8, up: bool) -> u8
 }
 
 impl DisplayAddress {
-    pub fn moved(self, up: bool) -> DisplayAddress
-        ensures { λ r. ⌜ r ≡ movedDisplay up self ⌝ }
+    // One place up or down, round the places that the chip has.
+    pub fn moved(self, chip: u8, up: bool) -> DisplayAddress
+        ensures { λ r. ⌜ r ≡ movedDisplay chip up self ⌝ }
     {
-        DisplayAddress(step_round(self.0, DISPLAY_SIZE as u8 - 1, up))
+        DisplayAddress(step_round(self.0, (places(chip) - 1) as u8, up))
     }
 
     // What display memory holds at this address.
-    pub fn read(self, display: &[u8; DISPLAY_SIZE]) -> u8
-        ensures { λ r. ⌜ r ≡ readDisplay self (now (display .entry)) ⌝ }
+    pub fn read(self, chip: u8, display: &[u8; DISPLAY_SIZE]) -> u8
+        ensures { λ r. ⌜ r ≡ readDisplay chip self (now (display .entry)) ⌝ }
     {
-        let i = self.0 as usize % DISPLAY_SIZE;
+        let i = self.0 as usize % places(chip);
         display[i]
     }
 
-    pub fn write(self, byte: u8, display: &mut [u8; DISPLAY_SIZE])
-        ensures { λ _. ⌜ now (display .exit) ≡ writtenDisplay self byte (now (display .entry)) ⌝ }
+    pub fn write(self, chip: u8, byte: u8, display: &mut [u8; DISPLAY_SIZE])
+        ensures { λ _. ⌜ now (display .exit) ≡ writtenDisplay chip self byte (now (display .entry)) ⌝ }
     {
-        let i = self.0 as usize % DISPLAY_SIZE;
+        let i = self.0 as usize % places(chip);
         display[i] = byte;
     }
 }
@@ -77,20 +79,20 @@ impl PatternAddress {
 
 impl Address {
     // The address as a status read shows it.
-    pub fn number(self) -> u8
-        ensures { λ r. ⌜ r ≡ addressNumber self ⌝ }
+    pub fn number(self, chip: u8) -> u8
+        ensures { λ r. ⌜ r ≡ addressNumber chip self ⌝ }
     {
         match self {
-            Address::Display(d) => (d.0 as usize % DISPLAY_SIZE) as u8,
+            Address::Display(d) => (d.0 as usize % places(chip)) as u8,
             Address::Pattern(p) => (p.0 as usize % PATTERN_SIZE) as u8,
         }
     }
 
-    pub fn moved(self, up: bool) -> Address
-        ensures { λ r. ⌜ r ≡ movedAddress up self ⌝ }
+    pub fn moved(self, chip: u8, up: bool) -> Address
+        ensures { λ r. ⌜ r ≡ movedAddress chip up self ⌝ }
     {
         match self {
-            Address::Display(d) => Address::Display(d.moved(up)),
+            Address::Display(d) => Address::Display(d.moved(chip, up)),
             Address::Pattern(p) => Address::Pattern(p.moved(up)),
         }
     }
