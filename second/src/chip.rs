@@ -1,7 +1,10 @@
 //! The sheet's machine: two memories, the address, the shift and the
-//! settings. It has no clock and knows no half transfers.
+//! settings. It has no clock and knows no half transfers. How far display
+//! memory reaches goes by the chip's lines; everything else is the same.
 
-/// A place in display memory, 0 to 15.
+use crate::chips::{Chip, DISPLAY_SIZE, LINE};
+
+/// A place in display memory, 0 to 15 on one line and 0 to 31 on two.
 #[derive(Clone, Copy, Debug, PartialEq)]
 pub struct DisplayAddress(pub u8);
 
@@ -25,10 +28,11 @@ impl Counter {
         }
     }
 
-    fn moved(self, up: bool) -> Counter {
+    /// One step within its memory; display memory is one ring over all lines.
+    fn moved(self, up: bool, chip: Chip) -> Counter {
         match self {
             Counter::Display(DisplayAddress(at)) => {
-                Counter::Display(DisplayAddress(around(at, up, 16)))
+                Counter::Display(DisplayAddress(around(at, up, chip.places() as u8)))
             }
             Counter::Pattern(PatternAddress(at)) => {
                 Counter::Pattern(PatternAddress(around(at, up, 32)))
@@ -52,9 +56,12 @@ pub enum Width {
 /// Everything that the sheet describes.
 #[derive(Clone, Debug, PartialEq)]
 pub struct Sheet {
-    pub display: [u8; 16],
+    pub chip: Chip,
+    /// Bytes past the chip's own are 20h.
+    pub display: [u8; DISPLAY_SIZE],
     pub pattern: [u8; 32],
     pub counter: Counter,
+    /// One for all lines: each shifts within itself.
     pub shift: u8,
     /// Entry bit I/D: true means up.
     pub i_d: bool,
@@ -79,9 +86,10 @@ pub enum Entry {
 }
 
 impl Sheet {
-    pub fn fresh() -> Sheet {
+    pub fn fresh(chip: Chip) -> Sheet {
         Sheet {
-            display: [0x20; 16],
+            chip,
+            display: [0x20; DISPLAY_SIZE],
             pattern: [0; 32],
             counter: Counter::Display(DisplayAddress(0)),
             shift: 0,
@@ -97,11 +105,12 @@ impl Sheet {
 
     pub fn carry_out(&mut self, entry: Entry) {
         match entry {
-            Entry::Reset => *self = Sheet::fresh(),
+            // It is the same chip afterwards.
+            Entry::Reset => *self = Sheet::fresh(self.chip),
             Entry::Instruction(code) => self.instruct(code),
             Entry::Write(byte) => self.write(byte),
             // A read never shifts the display, whatever S is.
-            Entry::Read => self.counter = self.counter.moved(self.i_d),
+            Entry::Read => self.move_counter(self.i_d),
         }
     }
 
@@ -121,20 +130,25 @@ impl Sheet {
             0x02..=0x03 => self.home(),
             0x04..=0x07 => (self.i_d, self.s) = (bit(1), bit(0)),
             0x08..=0x0F => (self.d, self.c, self.b) = (bit(2), bit(1), bit(0)),
-            0x10..=0x17 => self.counter = self.counter.moved(bit(2)),
+            0x10..=0x17 => self.move_counter(bit(2)),
             0x18..=0x1F => self.shift_display(!bit(2)),
             0x20..=0x3F => {
                 self.width = if bit(4) { Width::Eight } else { Width::Four };
                 self.function = code & 0x0F;
             }
             0x40..=0x7F => self.counter = Counter::Pattern(PatternAddress(code & 0x1F)),
-            0x80..=0xFF => self.counter = Counter::Display(DisplayAddress(code & 0x0F)),
+            // The low four bits on one line, the low five on two.
+            0x80..=0xFF => self.counter = Counter::Display(DisplayAddress(code % self.chip.places() as u8)),
         }
+    }
+
+    fn move_counter(&mut self, up: bool) {
+        self.counter = self.counter.moved(up, self.chip);
     }
 
     /// S stays as it is; only I/D is set.
     fn clear(&mut self) {
-        self.display = [0x20; 16];
+        self.display = [0x20; DISPLAY_SIZE];
         self.home();
         self.i_d = true;
     }
@@ -145,7 +159,7 @@ impl Sheet {
     }
 
     fn shift_display(&mut self, left: bool) {
-        self.shift = around(self.shift, left, 16);
+        self.shift = around(self.shift, left, LINE as u8);
     }
 
     fn write(&mut self, byte: u8) {
@@ -160,19 +174,23 @@ impl Sheet {
                 self.pattern[usize::from(at)] = byte & 0x1F;
             }
         }
-        self.counter = self.counter.moved(self.i_d);
+        self.move_counter(self.i_d);
     }
 }
+
+#[cfg(test)]
+mod two_lines;
 
 #[cfg(test)]
 mod tests {
     use super::*;
     use Counter::{Display, Pattern};
 
-    /// A sheet that is nowhere fresh.
+    /// A sheet of one line that is nowhere fresh.
     fn used() -> Sheet {
         Sheet {
-            display: std::array::from_fn(|at| 0xC0 + at as u8),
+            chip: Chip::ONE_LINE,
+            display: std::array::from_fn(|at| if at < 16 { 0xC0 + at as u8 } else { 0x20 }),
             pattern: std::array::from_fn(|at| at as u8),
             counter: Display(DisplayAddress(9)),
             shift: 6,
@@ -204,10 +222,10 @@ mod tests {
     #[test]
     fn clear_leaves_s_and_everything_it_does_not_name() {
         let counter = Display(DisplayAddress(0));
-        assert_eq!(instructed(0x01), Sheet { display: [0x20; 16], counter, shift: 0, i_d: true, ..used() });
+        assert_eq!(instructed(0x01), Sheet { display: [0x20; 32], counter, shift: 0, i_d: true, ..used() });
         let mut sheet = Sheet { s: false, ..in_pattern(20) };
         sheet.carry_out(Entry::Instruction(0x01));
-        assert_eq!(sheet, Sheet { display: [0x20; 16], counter, shift: 0, i_d: true, s: false, ..used() });
+        assert_eq!(sheet, Sheet { display: [0x20; 32], counter, shift: 0, i_d: true, s: false, ..used() });
     }
 
     #[test]
@@ -310,7 +328,7 @@ mod tests {
     #[test]
     fn a_reset_gives_a_fresh_sheet_and_00h_none() {
         let fresh = after(Entry::Reset);
-        assert_eq!((fresh.display, fresh.pattern), ([0x20; 16], [0; 32]));
+        assert_eq!((fresh.chip, fresh.display, fresh.pattern), (Chip(31), [0x20; 32], [0; 32]));
         assert_eq!((fresh.counter, fresh.shift), (Display(DisplayAddress(0)), 0));
         assert_eq!((fresh.i_d, fresh.s, fresh.d, fresh.c, fresh.b), (true, false, false, false, false));
         assert_eq!((fresh.width, fresh.function), (Width::Eight, 0));

@@ -2,16 +2,17 @@
 
 use crate::arguments::Lent;
 use crate::chip::{Counter, Width};
+use crate::chips::Chip;
 use crate::panel::number::{CUT, UNSOUND};
-use crate::panel::{self, Half, Panel, Run, Times};
+use crate::panel::{self, Half, Panel, Run};
 use crate::picture::{self, Comparison, Painting};
 use std::fmt::Write;
 
 pub const COUNTED: [&str; 8] = ["taken", "held", "status", "ignored", "torn", "back", "bad", "none"];
 
-/// What the mirror program prints for a log.
-pub fn glazomir(log: &[u8]) -> String {
-    let mut panel = Panel::fresh(Times::USUAL);
+/// What the mirror program prints for a log that is sent to this panel.
+pub fn glazomir(start: &Panel, log: &[u8]) -> String {
+    let mut panel = start.clone();
     let run = panel::run(&mut panel, log);
     let mut print = format!("records {}\n", run.records);
     for (name, count) in COUNTED.iter().zip(run.counts) {
@@ -23,7 +24,8 @@ pub fn glazomir(log: &[u8]) -> String {
         Counter::Pattern(_) => "pattern",
     };
     line(&mut print, format_args!("{word} {:02X}", panel.sheet.counter.number()));
-    line(&mut print, format_args!("codes {}", spaced(&panel.sheet.display)));
+    let codes = &panel.sheet.display[..panel.sheet.chip.places()];
+    line(&mut print, format_args!("codes {}", spaced(codes)));
     print
 }
 
@@ -72,7 +74,10 @@ fn answers(print: &mut String, run: &Run) {
 fn sheet(print: &mut String, panel: &Panel) {
     let sheet = &panel.sheet;
     let bit = u8::from;
-    line(print, format_args!("display {}", spaced(&sheet.display)));
+    line(print, format_args!("chip {}", sheet.chip.0));
+    // Of a chip that nobody knows all is shown that there is.
+    let shown = if sheet.chip == Chip::ONE_LINE { sheet.chip.places() } else { sheet.display.len() };
+    line(print, format_args!("display {}", spaced(&sheet.display[..shown])));
     line(print, format_args!("pattern {}", spaced(&sheet.pattern)));
     let memory = match sheet.counter {
         Counter::Display(_) => "display",
@@ -110,7 +115,7 @@ fn pictures(print: &mut String, lent: &Lent, panel: &Panel) {
         Some((one, other)) => (one, other),
         None => (light, dark),
     };
-    match picture::compare(one, other) {
+    match picture::compare(panel.sheet.chip, one, other) {
         Comparison::At { row, column } => line(print, format_args!("differ {row} {column}")),
         Comparison::Same => line(print, format_args!("differ none")),
         Comparison::Refused(number) => line(print, format_args!("differ refused {number}")),
@@ -137,7 +142,7 @@ mod tests {
     /// The lines of `trace` for a log, without the panel and the pictures.
     fn lines(lent: &Lent, log: &[u8]) -> Vec<String> {
         let print = trace(lent, log);
-        print.lines().take_while(|line| !line.starts_with("display")).map(str::to_string).collect()
+        print.lines().take_while(|line| !line.starts_with("chip")).map(str::to_string).collect()
     }
 
     fn usual() -> Lent {
@@ -196,6 +201,6 @@ mod tests {
         {
             assert!(print.contains(&format!("\n{line}\n")), "{line}");
         }
-        assert!(glazomir(&log).contains("\npattern 1E\ncodes 20 20"));
+        assert!(glazomir(&usual().panel, &log).contains("\npattern 1E\ncodes 20 20"));
     }
 }

@@ -15,6 +15,11 @@ use crate::log::{self, TIME_LIMIT};
 use crate::panel::{Half, Panel};
 use crate::random::Random;
 
+/// Where the ranges of codes that mean the same begin and end.
+const RANGE_ENDS: [u8; 18] = [
+    0x00, 0x01, 0x02, 0x03, 0x04, 0x07, 0x08, 0x0F, 0x10, 0x17, 0x18, 0x1F, 0x20, 0x3F, 0x40, 0x7F, 0x80, 0xFF,
+];
+
 /// How a box behaves through one log, in chances of a hundred.
 struct Habits {
     patient: u64,
@@ -65,7 +70,7 @@ pub fn send_log(random: &mut Random, panel: Panel, target: usize) -> Vec<u8> {
 
 impl Sender<'_> {
     fn phrase(&mut self) {
-        match self.random.below(20) {
+        match self.random.below(21) {
             0 => self.start_up(),
             1 | 2 => self.text_line(),
             3 | 4 => self.text_after_polling(),
@@ -81,6 +86,7 @@ impl Sender<'_> {
             14 => self.half_then_reset(),
             15 => self.nothing(),
             16 => self.codes_while_clearing(),
+            17 => self.at_the_ends_of_lines(),
             _ => self.any_transfers(),
         }
     }
@@ -98,12 +104,36 @@ impl Sender<'_> {
 
     fn text_line(&mut self) {
         if self.random.chance(60) {
-            let first = self.random.pick(&[0x01, 0x02, 0x03, 0x80]);
+            let first = self.random.pick(&[0x01, 0x02, 0x03, 0x80, 0x90]);
             self.instruct(first);
         }
         for _ in 0..1 + self.random.below(18) {
             let code = self.character();
             self.write(code);
+        }
+    }
+
+    /// Writes, reads and moves from one line to the other, whatever the chip;
+    /// C0h is where the second line of another maker's chip begins.
+    fn at_the_ends_of_lines(&mut self) {
+        if self.random.flag() {
+            let code = 0x04 | self.random.byte() & 3;
+            self.instruct(code);
+        }
+        let place = self.random.pick(&[0x80, 0x8F, 0x90, 0x9F, 0x81, 0x8E, 0x91, 0x9E, 0xC0, 0xAF, 0xD0]);
+        self.instruct(place);
+        let sort = self.random.below(5);
+        for _ in 0..1 + self.random.below(4) {
+            let code = self.character();
+            match sort {
+                0 => self.read(),
+                1 => self.instruct(0x10),
+                2 => self.instruct(0x14),
+                _ => self.write(code),
+            }
+        }
+        if self.random.chance(30) {
+            self.status();
         }
     }
 
@@ -150,7 +180,7 @@ impl Sender<'_> {
 
     fn read_back(&mut self) {
         let memory = self.random.pick(&[0x40, 0x80]);
-        let place = self.random.pick(&[0x00, 0x0F, 0x1E, 0x1F]);
+        let place = self.random.pick(&[0x00, 0x0F, 0x10, 0x1E, 0x1F]);
         self.instruct(memory | place);
         for _ in 0..1 + self.random.below(6) {
             self.read();
@@ -192,7 +222,8 @@ impl Sender<'_> {
         self.instruct(0x01);
         let patient = std::mem::replace(&mut self.habits.patient, 0);
         for _ in 0..4 + self.random.below(24) {
-            let code = self.random.byte();
+            let any = self.random.byte();
+            let code = if self.random.chance(25) { self.random.pick(&RANGE_ENDS) } else { any };
             self.instruct(code);
         }
         self.habits.patient = patient;
@@ -204,7 +235,7 @@ impl Sender<'_> {
         let screen = self.random.pick(&[0x0C, 0x0D, 0x0E, 0x0F]);
         self.instruct(screen);
         for _ in 0..self.random.below(4) {
-            let code = self.random.pick(&[0x18, 0x1C, 0x10, 0x14, 0x4F, 0x5E, 0x83]);
+            let code = self.random.pick(&[0x18, 0x1C, 0x10, 0x14, 0x4F, 0x53, 0x5E, 0x83, 0x93]);
             self.instruct(code);
         }
     }
