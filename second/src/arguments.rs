@@ -217,11 +217,14 @@ mod tests {
     fn refusals_of_every_program() {
         for (words, reason) in [
             ("chip", "name missing"), ("chip 6633", "name of the chip"), ("chip 35", "name of the chip"),
-            ("chip NJU6635", "name of the chip"), ("chip ", "name of the chip"), ("chip times 1 2 3", "name of the chip"),
+            ("chip NJU6635", "name of the chip"), ("chip ", "name of the chip"),
+            ("chip times 1 2 3", "name of the chip"),
             ("chip 6635 chip 6635", "chip given twice"), ("chip 6631 times 1 2 3 chip 6635", "chip given twice"),
-            ("times 1 2 3 times 1 2 3", "times given twice"), ("times", "number missing"), ("times 1 2", "number missing"),
-            ("times 1 2 65536", "number too large"), ("times 1 -2 3", "not a number"), ("times 1 2 chip 6635", "not a number"),
-            ("6635", "unknown word"), ("Chip 6635", "unknown word"), ("", "unknown word"), ("chip 6635 4", "unknown word"),
+            ("times 1 2 3 times 1 2 3", "times given twice"), ("times", "number missing"),
+            ("times 1 2", "number missing"),
+            ("times 1 2 65536", "number too large"), ("times 1 -2 3", "not a number"),
+            ("times 1 2 chip 6635", "not a number"), ("6635", "unknown word"), ("Chip 6635", "unknown word"),
+            ("", "unknown word"), ("chip 6635 4", "unknown word"),
         ] {
             let words = split(words);
             assert_eq!(start(&words).err(), Some(reason), "{words:?}");
@@ -234,7 +237,8 @@ mod tests {
     fn refusals_of_trace() {
         for (words, reason) in [
             ("ascii", "unknown word"), ("records records", "group given twice"), ("frame 201", "number too large"),
-            ("frame +1", "not a number"), ("frame ", "not a number"), ("font", "file missing"), ("Records", "unknown word"),
+            ("frame +1", "not a number"), ("frame ", "not a number"), ("font", "file missing"),
+            ("Records", "unknown word"),
         ] {
             assert_eq!(trace(&split(words)).err(), Some(reason), "{words}");
         }

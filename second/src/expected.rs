@@ -168,8 +168,8 @@ mod tests {
         for which in [Which::Glazomir, Which::Trace, Which::Report, Which::Wall] {
             assert!(matches!(due(which, &["--help"], Feed::Whole), Expected::OwnWords));
             for words in [
-                &["--help", "--help"][..], &["-h"], &[""], &["chip", "35"], &["chip"], &["chip", "6635", "chip", "6635"],
-                &["times", "1", "2"], &["times", "1", "2", "65536"],
+                &["--help", "--help"][..], &["-h"], &[""], &["chip", "35"], &["chip"],
+                &["chip", "6635", "chip", "6635"], &["times", "1", "2"], &["times", "1", "2", "65536"],
             ] {
                 assert!(matches!(due(which, words, Feed::Whole), Expected::Complaint(..)), "{which:?} {words:?}");
             }

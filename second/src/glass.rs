@@ -93,13 +93,16 @@ pub fn two_lines_by_time() -> Vec<Trial> {
     let sent = [
         (instruction, 0x0E), (data, 0x57), (instruction, 0x90), (data, 0x57), (instruction, 0x18), (instruction, 0x53),
     ];
-    let log: Vec<u8> = (0..).zip(sent).flat_map(|(n, (control, byte))| log::write_transfer(40 * n, control, byte)).collect();
+    let times = (0..).step_by(40);
+    let log: Vec<u8> =
+        times.zip(sent).flat_map(|(time, (control, byte))| log::write_transfer(time, control, byte)).collect();
     let asked = |words: String| {
         let groups = vec![text(&words), text("chip 6635"), files("font", vec![cases::wall_font()])];
         Trial { groups, log: log.clone() }
     };
     let mut trials: Vec<Trial> = (0..7).map(|n| asked(format!("ascii at {}", 40 * n))).collect();
-    trials.extend(["ascii at 119", "pbm at 120", "pbm dark", "at 200 dark ascii"].map(|words| asked(words.to_string())));
+    let others = ["ascii at 119", "pbm at 120", "pbm dark", "at 200 dark ascii"];
+    trials.extend(others.map(|words| asked(words.to_string())));
     trials
 }
 

@@ -136,20 +136,20 @@ fn frames(random: &mut Random, chip: Chip) -> (Vec<u8>, Vec<u8>) {
     let mut other = one.clone();
     let other_size = other_size(chip);
     let wrong_size = random.pick(&[0, 1, size - 1, size + 1, other_size, other_size, other_size, 200]);
-    match random.below(10) {
+    match random.below(12) {
         0 => {}
         1 => flip(&mut other, random.below(dots)),
-        2 => flip(&mut other, random.pick(&[0, 79, 80, 639, dots - 640, dots / 2, dots - 80, dots - 1, dots - 1])),
-        3 => {
+        2..=4 => flip(&mut other, random.pick(&[0, 79, 80, 639, dots - 640, dots / 2, dots - 80, dots - 1, dots - 1])),
+        5 => {
             for _ in 0..2 + random.below(9) {
                 flip(&mut other, random.below(dots));
             }
         }
-        4 => other = random.bytes(size),
-        5 => return (random.bytes(wrong_size), other),
-        6 => other.resize(wrong_size, 0),
-        7 => return (vec![7; wrong_size], vec![7; wrong_size]),
-        8 => return (random.bytes(other_size), random.bytes(other_size)),
+        6 => other = random.bytes(size),
+        7 => return (random.bytes(wrong_size), other),
+        8 => other.resize(wrong_size, 0),
+        9 => return (vec![7; wrong_size], vec![7; wrong_size]),
+        10 => return (random.bytes(other_size), random.bytes(other_size)),
         // A dot of the last line, and any that come after it.
         _ => {
             let first = dots - 1 - random.below(640);

@@ -99,7 +99,8 @@ mod tests {
         }
         log.extend(&wanted);
         log.extend(log::write_reset(99));
-        let small = shrink(Trial::of_chip(Chip::ONE_LINE, log), &|trial| split_records(&trial.log).contains(&&wanted[..]));
+        let trial = Trial::of_chip(Chip::ONE_LINE, log);
+        let small = shrink(trial, &|trial| split_records(&trial.log).contains(&&wanted[..]));
         assert_eq!(small.log, wanted);
     }
 

@@ -49,9 +49,10 @@ fn addresses() -> Vec<Case> {
 }
 
 fn shifts_and_settings() -> Vec<Case> {
+    let entry = [(INSTRUCTION, 0x90), (INSTRUCTION, 0x07), (DATA, 0x41)];
     let moved = [(INSTRUCTION, 0x90), (DATA, 0x41), (INSTRUCTION, 0x18), (INSTRUCTION, 0x14)];
     vec![
-        two("2I: 90h, 07h, a write", forty_apart(&[(INSTRUCTION, 0x90), (INSTRUCTION, 0x07), (DATA, 0x41)]), |panel, _, _| {
+        two("2I: 90h, 07h, a write", forty_apart(&entry), |panel, _, _| {
             at_display(&panel.sheet, 0x11) && panel.sheet.shift == 1 && panel.sheet.display[0x10] == 0x41
         }),
         two("03h after moves", forty_apart(&[&moved[..], &[(INSTRUCTION, 0x03)]].concat()), |panel, run, _| {

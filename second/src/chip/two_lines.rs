@@ -36,8 +36,10 @@ fn instructed(code: u8) -> Sheet {
 }
 
 /// Where the second line begins and ends, up and down.
-const TURNS: [(u8, bool, u8); 6] =
-    [(0x0F, true, 0x10), (0x1F, true, 0x00), (0x10, false, 0x0F), (0x00, false, 0x1F), (0x11, true, 0x12), (0x1E, false, 0x1D)];
+const TURNS: [(u8, bool, u8); 6] = [
+    (0x0F, true, 0x10), (0x1F, true, 0x00), (0x10, false, 0x0F), (0x00, false, 0x1F), (0x11, true, 0x12),
+    (0x1E, false, 0x1D),
+];
 
 #[test]
 fn addresses_run_on_over_both_lines() {

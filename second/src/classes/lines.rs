@@ -15,8 +15,8 @@ const EVERY_CHIP: [&str; 26] = [
     "reset of a written display memory", "status read of a pattern address above 15, width 8",
     "status read of a pattern address above 15, width 4", "blink above 15 in pattern memory",
     "cursor above 15 in pattern memory, at a shift", "blink above 15 in pattern memory, at a shift",
-    "handed in: display address 16", "handed in: display address 31", "unsound: shift 16", "frame of 80", "frame of 159",
-    "frame of 160", "frame of 161", "9 for a frame of the other chip's size",
+    "handed in: display address 16", "handed in: display address 31", "unsound: shift 16", "frame of 80",
+    "frame of 159", "frame of 160", "frame of 161", "9 for a frame of the other chip's size",
     "frames: first of the other chip's size", "frames: second of the other chip's size",
     "frames: both of the other chip's size", "frames: both of the other chip's size, the same", "panel and chip",
     "panel and another chip",
@@ -35,10 +35,12 @@ const TWO_LINES: [&str; 38] = [
     "display write with S from line to line, up", "display write with S from line to line, down",
     "shift left with both lines written", "shift right with both lines written", "Clear with both lines written",
     "Home 03h from the second line", "reset with both lines written", "status read on the second line, width 8",
-    "status read on the second line, width 4", "painted with both lines written", "painted at a shift with both lines written",
+    "status read on the second line, width 4", "painted with both lines written",
+    "painted at a shift with both lines written",
     "cursor on the first line, at a shift", "cursor on the second line", "cursor on the second line, at a shift",
     "blink on the first line", "blink on the second line", "blink on the second line, at a shift",
-    "dark and light first differ on the second line", "panel sound: display address 16", "panel sound: display address 31",
+    "dark and light first differ on the second line", "panel sound: display address 16",
+    "panel sound: display address 31",
     "frames: last dot of the first line", "frames: first dot of the second line", "frames: second line alone",
     "cursor of a display address on the second line",
 ];
@@ -77,9 +79,9 @@ pub fn of_unknown_chips() -> Vec<String> {
     let mut all: Vec<String> = UNKNOWN_CHIPS.map(|number| format!("unknown chip {number}")).into();
     all.extend(
         [
-            "sound as one line", "sound as two lines", "unsound in another way too", "10 over records", "10 on an empty log",
-            "10 with a cut log", "by records", "frame of 80", "frame of 160", "frame of another size", "frames of 80",
-            "frames of 160", "frames of other sizes", "a chip among the words",
+            "sound as one line", "sound as two lines", "unsound in another way too", "10 over records",
+            "10 on an empty log", "10 with a cut log", "by records", "a chip among the words", "frame of 80",
+            "frame of 160", "frame of another size", "frames of 80", "frames of 160", "frames of other sizes",
         ]
         .map(|class| format!("unknown chip: {class}")),
     );

@@ -36,7 +36,8 @@ const REFUSED: [&str; 5] = [
 const TWO_LINES: [&str; 8] = [
     "the cursor on the first line", "the cursor on the second line", "the cursor on the first line, at a shift",
     "the cursor on the second line, at a shift", "cursor in pattern memory, on the second line",
-    "the lines show other codes", "another second line at the end of the log", "bitmap of the cursor on the second line",
+    "the lines show other codes", "another second line at the end of the log",
+    "bitmap of the cursor on the second line",
 ];
 
 pub fn of_chip(chip: Chip) -> Vec<String> {

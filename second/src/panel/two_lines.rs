@@ -75,8 +75,9 @@ fn the_status_byte_shows_all_five_bits() {
 fn halves_are_as_on_one_line() {
     let mut panel = after(35, &[(INSTRUCTION, 0x20)]);
     for (time, control, data, number) in [
-        (40, INSTRUCTION, 0x90, HELD), (41, INSTRUCTION, 0xC0, TAKEN), (80, DATA, 0x50, IGNORED), (81, DATA, 0x70, IGNORED),
-        (82, DATA, 0x50, HELD), (83, DATA, 0x70, TAKEN), (123, DATA, 0x50, HELD), (124, INSTRUCTION, 0x70, TORN),
+        (40, INSTRUCTION, 0x90, HELD), (41, INSTRUCTION, 0xC0, TAKEN), (80, DATA, 0x50, IGNORED),
+        (81, DATA, 0x70, IGNORED), (82, DATA, 0x50, HELD), (83, DATA, 0x70, TAKEN), (123, DATA, 0x50, HELD),
+        (124, INSTRUCTION, 0x70, TORN),
     ] {
         assert_eq!(panel.answer(&log::write_transfer(time, control, data)).number, number, "at {time}");
     }
@@ -85,9 +86,10 @@ fn halves_are_as_on_one_line() {
 
 #[test]
 fn addresses_and_shifts_that_are_sound() {
-    for (chip, address, is_sound) in
-        [(31, 15, true), (31, 16, false), (31, 31, false), (35, 15, true), (35, 16, true), (35, 31, true), (35, 32, false)]
-    {
+    for (chip, address, is_sound) in [
+        (31, 15, true), (31, 16, false), (31, 31, false), (35, 15, true), (35, 16, true), (35, 31, true),
+        (35, 32, false),
+    ] {
         let mut panel = fresh(chip);
         panel.sheet.counter = display(address);
         assert_eq!(panel.is_sound(), is_sound, "chip {chip}, address {address}");

@@ -25,7 +25,8 @@ fn font() -> Vec<u8> {
 fn lit(panel: &Panel, font: &[u8], dark: bool) -> Vec<(usize, usize)> {
     let mut frame = [0xA5; 160];
     let painting = paint(panel, font, dark, &mut frame);
-    let all: Vec<_> = (0..16 * 80).map(|at| (at / 80, at % 80)).filter(|&(row, column)| dot(&frame, row, column)).collect();
+    let places = (0..16 * 80).map(|at| (at / 80, at % 80));
+    let all: Vec<_> = places.filter(|&(row, column)| dot(&frame, row, column)).collect();
     assert_eq!(painting, Painting::Lit(all.len() as u32));
     all
 }
@@ -85,7 +86,9 @@ fn cursor_and_blink_stand_on_one_line() {
     ] {
         let mut panel = Panel::fresh(Chip::TWO_LINES, Times::USUAL);
         (panel.sheet.d, panel.sheet.counter, panel.sheet.shift) = (true, counter, shift);
-        for (c, b, dark, whole) in [(true, false, true, false), (true, true, false, false), (true, true, true, true), (false, true, true, true)] {
+        for (c, b, dark, whole) in [
+            (true, false, true, false), (true, true, false, false), (true, true, true, true), (false, true, true, true),
+        ] {
             (panel.sheet.c, panel.sheet.b) = (c, b);
             let expected = filled(first_row, position, whole);
             assert_eq!(lit(&panel, &font(), dark), expected, "{counter:?} {shift} C {c} B {b} dark {dark}");
@@ -99,7 +102,9 @@ fn cursor_and_blink_stand_on_one_line() {
 
 #[test]
 fn a_pattern_address_on_one_line_counts_modulo_16() {
-    for (at, shift, byte, dots) in [(0x13, 0, 71, [0x01, 0xF0]), (0x03, 0, 71, [0x01, 0xF0]), (0x1F, 15, 70, [0xF8, 0x00])] {
+    for (at, shift, byte, dots) in
+        [(0x13, 0, 71, [0x01, 0xF0]), (0x03, 0, 71, [0x01, 0xF0]), (0x1F, 15, 70, [0xF8, 0x00])]
+    {
         let mut panel = Panel::fresh(Chip::ONE_LINE, Times::USUAL);
         (panel.sheet.d, panel.sheet.c, panel.sheet.shift) = (true, true, shift);
         panel.sheet.counter = Counter::Pattern(PatternAddress(at));
@@ -147,9 +152,10 @@ fn a_comparison_is_told_the_chip() {
     for (chip, one, other, expected) in [
         (31, 80, 80, Comparison::Same), (31, 160, 160, Comparison::Refused(9)), (31, 80, 160, Comparison::Refused(9)),
         (35, 160, 160, Comparison::Same), (35, 80, 80, Comparison::Refused(9)), (35, 160, 80, Comparison::Refused(9)),
-        (35, 159, 160, Comparison::Refused(9)), (35, 160, 161, Comparison::Refused(9)), (35, 0, 0, Comparison::Refused(9)),
-        (0, 80, 80, Comparison::Refused(10)), (34, 160, 160, Comparison::Refused(10)), (255, 80, 160, Comparison::Refused(10)),
-        (36, 0, 200, Comparison::Refused(10)),
+        (35, 159, 160, Comparison::Refused(9)), (35, 160, 161, Comparison::Refused(9)),
+        (35, 0, 0, Comparison::Refused(9)),
+        (0, 80, 80, Comparison::Refused(10)), (34, 160, 160, Comparison::Refused(10)),
+        (255, 80, 160, Comparison::Refused(10)), (36, 0, 200, Comparison::Refused(10)),
     ] {
         assert_eq!(compare(Chip(chip), &vec![7; one], &vec![7; other]), expected, "chip {chip}, {one} and {other}");
     }
