@@ -214,6 +214,24 @@ mod tests {
     }
 
     #[test]
+    fn a_panel_has_a_chip_of_its_own() {
+        let path = std::env::temp_dir().join(format!("second-panel-{}", std::process::id()));
+        let file = path.display().to_string();
+        for (chip, size) in [(31, 80), (35, 160), (34, 80)] {
+            let panel = Panel::fresh(Chip(chip), Times { reset: 1, long: 2, short: 3 });
+            fs::write(&path, panel_file::write(&panel)).expect("a temporary file");
+            for beside in ["chip 6631", "chip 6635", "times 7 7 7 chip 6635", "times 7 7 7"] {
+                let lent = trace(&split(&format!("{beside} panel {file}"))).ok().expect("a panel");
+                assert_eq!((lent.panel, lent.frame_size), (panel.clone(), size), "{beside}");
+            }
+            for (beside, reason) in [("chip 34", "name of the chip"), ("times 7 7 65536", "number too large")] {
+                assert_eq!(trace(&split(&format!("panel {file} {beside}"))).err(), Some(reason));
+            }
+        }
+        fs::remove_file(&path).expect("it was written");
+    }
+
+    #[test]
     fn refusals_of_every_program() {
         for (words, reason) in [
             ("chip", "name missing"), ("chip 6633", "name of the chip"), ("chip 35", "name of the chip"),

@@ -204,3 +204,25 @@ pub fn cut_tail(random: &mut Random, way: u64) -> Vec<u8> {
     tail.extend(random.bytes(enough));
     tail
 }
+
+#[cfg(test)]
+mod tests {
+    use super::*;
+
+    #[test]
+    fn about_half_of_the_logs_are_for_two_lines() {
+        let is_for_two = |trial: &Trial| trial.chip_named() == Some(Chip::TWO_LINES);
+        let logs = (0..1_000).filter(|turn| is_for_two(&trial(3, *turn))).count();
+        let nights = (0..1_000).filter(|turn| is_for_two(&night(3, *turn))).count();
+        assert!((400..600).contains(&logs) && (400..600).contains(&nights), "{logs} {nights}");
+    }
+
+    #[test]
+    fn what_another_program_hears_of_the_panel() {
+        let groups = ["records", "chip 6635", "frame 80", "times 1 2 3"].map(lend::text).to_vec();
+        let trial = Trial { groups, log: Vec::new() };
+        assert_eq!(trial.fresh_groups(), ["chip 6635", "times 1 2 3"].map(lend::text));
+        assert_eq!(trial.chip_named(), Some(Chip::TWO_LINES));
+        assert!(trial.gives("times") && !trial.gives("panel"));
+    }
+}

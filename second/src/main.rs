@@ -78,8 +78,7 @@ two lines. Every log goes through trace, every eighth through glazomir, every
 eleventh through the report with nights of a box in haste beside them; the wall
 has logs of its own, one to five. A difference is shrunk to a short log and
 printed, and so is a class that no log of a chip reached (which a small N brings
-about); the status is then 1. The last
-line is `N passed, N failed`.
+about); the status is then 1. The last line is `N passed, N failed`.
 ";
 
 fn main() -> ExitCode {

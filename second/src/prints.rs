@@ -1,4 +1,5 @@
-//! The two prints: the twelve lines of `glazomir`, and all of `trace`.
+//! The two prints: the twelve lines of `glazomir`, and all of `trace`, whichever
+//! chip the panel has.
 
 use crate::arguments::Lent;
 use crate::chip::{Counter, Width};
@@ -202,5 +203,61 @@ mod tests {
             assert!(print.contains(&format!("\n{line}\n")), "{line}");
         }
         assert!(glazomir(&usual().panel, &log).contains("\npattern 1E\ncodes 20 20"));
+    }
+
+    /// A panel of this chip with 41h at its first place, and frames of its size.
+    fn lent_by(chip: u8) -> Lent {
+        let mut lent = usual();
+        lent.panel.sheet.chip = Chip(chip);
+        lent.panel.sheet.display[0] = 0x41;
+        lent.frame_size = lent.panel.sheet.chip.frame_size();
+        lent
+    }
+
+    /// The lines `sound` and `chip`, and how many bytes of display memory follow.
+    fn chip_and_display(lent: &Lent) -> (String, usize) {
+        let print = trace(lent, &[]);
+        let lines: Vec<&str> = print.lines().skip_while(|line| !line.starts_with("sound")).collect();
+        assert!(lines[2].starts_with("display 41 20 ") && lines[3].starts_with("pattern 00 "));
+        (format!("{}, {}", lines[0], lines[1]), lines[2].split(' ').count() - 1)
+    }
+
+    #[test]
+    fn the_chip_and_as_much_of_display_memory_as_it_has() {
+        assert_eq!(chip_and_display(&lent_by(31)), ("sound 1, chip 31".to_string(), 16));
+        assert_eq!(chip_and_display(&lent_by(35)), ("sound 1, chip 35".to_string(), 32));
+        assert_eq!(chip_and_display(&lent_by(0)), ("sound 0, chip 0".to_string(), 32));
+        assert_eq!(chip_and_display(&lent_by(255)), ("sound 0, chip 255".to_string(), 32));
+    }
+
+    #[test]
+    fn pictures_of_the_other_chips_size() {
+        let dots = "A5".repeat(80);
+        let print = trace(&Lent { frame_size: 80, ..lent_by(35) }, &[]);
+        assert!(print.ends_with(&format!("\nframe 0 refused 9 {dots}\nframe 1 refused 9 {dots}\ndiffer refused 9\n")));
+        let dots = "A5".repeat(160);
+        let print = trace(&Lent { frame_size: 160, ..lent_by(31) }, &[]);
+        assert!(print.ends_with(&format!("\nframe 0 refused 9 {dots}\nframe 1 refused 9 {dots}\ndiffer refused 9\n")));
+    }
+
+    #[test]
+    fn a_comparison_looks_at_the_chip_and_not_at_the_panel() {
+        let dots = "A5".repeat(80);
+        for (size, other) in [(80, 80), (160, 160), (0, 200)] {
+            let frames = Some((vec![0; size], vec![0; other]));
+            let print = trace(&Lent { frames, ..lent_by(34) }, &[]);
+            let refused = format!("\nframe 0 refused 10 {dots}\nframe 1 refused 10 {dots}\ndiffer refused 10\n");
+            assert!(print.ends_with(&refused), "{size}");
+        }
+        let mut lent = lent_by(35);
+        lent.panel.sheet.shift = 16;
+        assert!(trace(&lent, &[]).ends_with("\ndiffer none\n"), "both are as they were lent");
+    }
+
+    #[test]
+    fn a_refused_run_of_an_unknown_chip() {
+        let log = [log::write_transfer(0, 1, 0x41), vec![12]].concat();
+        let expected = ["refused 10", "records 1", "cut 0", "counts 0 0 0 0 0 0 0 0", "sound 0"];
+        assert_eq!(lines(&lent_by(36), &log), expected);
     }
 }
