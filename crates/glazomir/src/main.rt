@@ -114,12 +114,7 @@ fn main() {
     }
     let times = told.times;
     let mut block = [0; BLOCK];
-    let start = Stream::start(Panel::fresh(
-        told.chip,
-        times.reset,
-        times.long,
-        times.short,
-    ));
+    let start = Stream::start(Panel::fresh(told.chip, times.reset, times.long, times.short));
     let fed = feed_all(start, &mut block);
     if fed.failed {
         return;
