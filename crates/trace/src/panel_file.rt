@@ -17,6 +17,11 @@ use mirror::panel::Times;
 
 pub const PANEL_SIZE: usize = 101;
 
+// Where the memories begin.
+const DISPLAY: usize = 1;
+
+const PATTERN: usize = DISPLAY + DISPLAY_SIZE;
+
 // Numbers as a log has them. log's own readers of these ask that the bytes be there, so they cannot be public.
 fn wide(x: u8) -> u64
     ensures { λ r. ⌜ Byte x r ⌝ }
@@ -87,7 +92,7 @@ fn display_of(bytes: [u8; ROOM]) -> [u8; DISPLAY_SIZE]
 {
     let mut display = [0u8; DISPLAY_SIZE];
     for i in 0..DISPLAY_SIZE {
-        display[i] = bytes[1 + i];
+        display[i] = bytes[DISPLAY + i];
     }
     display
 }
@@ -97,7 +102,7 @@ fn pattern_of(bytes: [u8; ROOM]) -> [u8; PATTERN_SIZE]
 {
     let mut pattern = [0u8; PATTERN_SIZE];
     for i in 0..PATTERN_SIZE {
-        pattern[i] = bytes[1 + DISPLAY_SIZE + i];
+        pattern[i] = bytes[PATTERN + i];
     }
     pattern
 }
