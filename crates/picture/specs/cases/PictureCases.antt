@@ -1,4 +1,4 @@
--- Worked examples of the picture.
+-- Worked examples of the picture, on one line and on two.
 use Prim.Native.Nat.{ℕ}
 use mathlib.Core.Path.{_≡_, refl}
 use mathlib.Core.Bool.{false}
@@ -7,6 +7,7 @@ use lib.ListN.{replicate}
 use Rattle.dots.specs.Bit.{pack}
 use Rattle.dots.specs.Table.{table, sum}
 use Rattle.dots.specs.Landing.{dotsFrame, countOf}
+use Rattle.chip.specs.Sizes.{oneLine, twoLines}
 use Rattle.chip.specs.Sheet.{freshSheet}
 use Rattle.chip.specs.Step.{obeyed}
 use Rattle.chip.specs.declared.sheet.Sheet.{Sheet}
@@ -19,14 +20,14 @@ case-J : (memory font : List ℕ) → shapeOf memory font 0x08 ≡ patternOf mem
 case-J memory font = refl
 
 -- a fresh panel after 0Eh: D = C = 1, the cursor at position 0
-abbrev underlined : Sheet
-underlined = obeyed 0x0E freshSheet
+abbrev underlined : ℕ → Sheet
+underlined chip = obeyed 0x0E (freshSheet chip)
 
 -- case L: with 20h blank in the font, 5 dots are lit, frame byte 70 is F8h, all others 0
-case-L-count : countOf glass (lit underlined (replicate fontSize 0) false) ≡ 5
+case-L-count : countOf (glass oneLine) (lit (underlined oneLine) (replicate fontSize 0) false) ≡ 5
 unfolding countOf lit sum table
 case-L-count = refl
 
-case-L-frame : dotsFrame glass (lit underlined (replicate fontSize 0) false) ≡ replicate 70 0 ++ 0xF8 ∷ replicate 9 0
+case-L-frame : dotsFrame (glass oneLine) (lit (underlined oneLine) (replicate fontSize 0) false) ≡ replicate 70 0 ++ 0xF8 ∷ replicate 9 0
 unfolding dotsFrame lit table pack
 case-L-frame = refl
