@@ -1,7 +1,7 @@
 // The two counts. A display address and a pattern address are numbers of their own types, and these are the only
 // functions that index a memory.
 ghost use mathlib.Core.Path.{_≡_};
-ghost use Prim.Native.Nat.{_+_};
+ghost use Prim.Native.Nat.{_<_, _≤_};
 ghost use Rattle.laws.specs.Ring.{moved};
 ghost use Rattle.chip.specs.Address.{movedDisplay, movedPattern, movedAddress, readDisplay, writtenDisplay, readPattern, writtenPattern, addressNumber};
 use crate::sizes::DISPLAY_SIZE;
@@ -18,15 +18,16 @@ pub enum Address {
     Pattern(PatternAddress),
 }
 
-// One place up or down round a ring whose last place is `last`.
-pub fn step_round(at: u8, last: u8, up: bool) -> u8
-    ensures { λ r. ⌜ r ≡ moved (last + 1) up at ⌝ }
+// One place up or down round a ring of so many places. Handed the size as it is asked of the chip, the compiler sees that it
+// is a power of two, and divides by none.
+pub(crate) fn step_round(at: u8, size: usize, up: bool) -> u8
+    requires { ⌜ (0 < size) × (size ≤ 256) ⌝ }
+    ensures { λ r. ⌜ r ≡ moved size up at ⌝ }
 {
-    let size = last as u16 + 1;
     if up {
-        ((at as u16 + 1) % size) as u8
+        ((at as usize + 1) % size) as u8
     } else {
-        ((at as u16 + last as u16) % size) as u8
+        ((at as usize + (size - 1)) % size) as u8
     }
 }
 
@@ -35,7 +36,7 @@ impl DisplayAddress {
     pub fn moved(self, chip: u8, up: bool) -> DisplayAddress
         ensures { λ r. ⌜ r ≡ movedDisplay chip up self ⌝ }
     {
-        DisplayAddress(step_round(self.0, (places(chip) - 1) as u8, up))
+        DisplayAddress(step_round(self.0, places(chip), up))
     }
 
     // What display memory holds at this address.
@@ -58,7 +59,7 @@ impl PatternAddress {
     pub fn moved(self, up: bool) -> PatternAddress
         ensures { λ r. ⌜ r ≡ movedPattern up self ⌝ }
     {
-        PatternAddress(step_round(self.0, PATTERN_SIZE as u8 - 1, up))
+        PatternAddress(step_round(self.0, PATTERN_SIZE, up))
     }
 
     // What pattern memory holds at this address: five bits.

@@ -114,7 +114,7 @@ impl Registers {
         ensures { λ r. ⌜ Steps (shifted left) self r ⌝ }
     {
         Registers {
-            shift: step_round(self.shift, POSITIONS as u8 - 1, left),
+            shift: step_round(self.shift, POSITIONS, left),
             ..self
         }
     }

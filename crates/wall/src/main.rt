@@ -10,6 +10,7 @@ use codes::show_codes;
 use codes::show_cursor;
 use codes::show_text;
 use desk::arguments::GROUPS;
+use desk::arguments::Given;
 use desk::arguments::asked;
 use desk::bytes::Bytes;
 use desk::bytes::load;
@@ -17,9 +18,8 @@ use desk::input::BLOCK;
 use desk::number::Number;
 use desk::number::number_at;
 use desk::print::complain;
-use desk::times::LONG;
-use desk::times::RESET;
-use desk::times::SHORT;
+use desk::told::Told;
+use desk::told::told_at;
 use draw::draw;
 use draw::painted;
 use mirror::panel::Panel;
@@ -41,6 +41,10 @@ const DARK: usize = 2;
 const AT: usize = 3;
 
 const FONT: usize = 4;
+
+const CHIP: usize = 5;
+
+const TIMES: usize = 6;
 
 // The time to stop at.
 fn time_at(place: usize) -> Number {
@@ -84,10 +88,11 @@ fn show_glass(frame: [u8; FRAME_SIZE], panel: Panel, ascii: bool) {
 }
 
 // Watches the log up to the time, then shows what the glass did.
-fn show_all(places: [usize; GROUPS], until: u64, font: Bytes) {
+fn show_all(places: [usize; GROUPS], told: Told, until: u64, font: Bytes) {
     let mut block = [0; BLOCK];
-    let start = Stream::start(Panel::fresh(RESET, LONG, SHORT));
-    let seen = watch_all(start, until, &mut block);
+    let times = told.times;
+    let fresh = Panel::fresh(told.chip, times.reset, times.long, times.short);
+    let seen = watch_all(Stream::start(fresh), until, &mut block);
     if seen.failed {
         return;
     }
@@ -102,24 +107,35 @@ fn show_all(places: [usize; GROUPS], until: u64, font: Bytes) {
     }
 }
 
-fn main() {
-    let given = asked(
+// What was asked for.
+fn arguments() -> Given {
+    asked(
         b"wall",
-        b"ascii, pbm, dark, at TIME, font FILE",
-        b"wall < LOG draws what the glass showed at the end of the log: 8 rows of 80 dots, two to\n\
-        a line, then the sixteen codes shown, as text and as numbers, and the cursor's position.\n\
-        ascii      a line for each row of dots, of # and .\n\
-        pbm        a portable bitmap of the dots, and nothing else\n\
-        dark       the blink is dark; without it, light\n\
-        at TIME    the glass at this time, in microseconds, at most 281474976710656\n\
-        font FILE  1920 bytes: codes 10h to FFh, eight rows each; without it, a font of its own\n",
-    );
+        b"ascii, pbm, dark, at TIME, font FILE, chip NAME, times R L S",
+        b"wall < LOG draws what the glass showed at the end of the log: 8 rows of 80 dots, of two lines 16, two\n\
+        to a line; then the sixteen codes that each line shows, as text and as numbers, and the cursor's position.\n\
+        ascii        a line for each row of dots, of # and .\n\
+        pbm          a portable bitmap of the dots, and nothing else\n\
+        dark         the blink is dark; without it, light\n\
+        at TIME      the glass at this time, in microseconds, at most 281474976710656\n\
+        font FILE    1920 bytes: codes 10h to FFh, eight rows each; without it, a font of its own\n\
+        chip NAME    6631, one line, or 6635, two lines; without it, 6631\n\
+        times R L S  reset, long and short time in microseconds; without it, 10000 1640 40\n",
+    )
+}
+
+fn main() {
+    let given = arguments();
     if !given.ok {
         return;
     }
     let places = given.places;
     if (places[ASCII] != 0) & (places[PBM] != 0) {
         complain(b"wall", b"takes ascii or pbm, not both");
+        return;
+    }
+    let told = told_at(b"wall", places[CHIP], places[TIMES]);
+    if !told.ok {
         return;
     }
     let until = time_at(places[AT]);
@@ -130,5 +146,5 @@ fn main() {
     if !font.ok {
         return;
     }
-    show_all(places, until.value, font);
+    show_all(places, told, until.value, font);
 }
