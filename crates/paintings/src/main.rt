@@ -2,6 +2,7 @@
 // (modulo a prime) and the last frame. Each painting has another shift, and every second one a dark blink.
 ghost use mathlib.Core.Path.{_≡_};
 ghost use lib.ListN.{length};
+ghost use Rattle.picture.specs.Frame.{mostFrameSize};
 use chip::registers::Registers;
 use chip::sheet::Sheet;
 use chip::sizes::POSITIONS;
@@ -86,7 +87,7 @@ fn show_lent(panel: Panel, font: &[u8], frame: &mut [u8]) {
 
 // Room for the frame of either chip.
 fn blank() -> [u8; MOST_FRAME_SIZE]
-    ensures { λ r. ⌜ 160 ≡ length r ⌝ }
+    ensures { λ r. ⌜ mostFrameSize ≡ length r ⌝ }
 {
     [0; MOST_FRAME_SIZE]
 }

@@ -19,6 +19,10 @@ bytesAcross = positions * wide / 8
 abbrev pub glass : ℕ → Landing
 glass chip = byRows (linesOf chip * tall) bytesAcross
 
+-- the bytes of the largest frame
+abbrev pub mostFrameSize : ℕ
+mostFrameSize = mostLines * tall * bytesAcross
+
 -- what `rows` and `frame_size` answer, with the bounds that their callers need
 pub record Rows (chip r : ℕ) : Type 0 where
   pub is : r ≡ glass chip .rows
@@ -26,7 +30,7 @@ pub record Rows (chip r : ℕ) : Type 0 where
 
 pub record FrameSize (chip r : ℕ) : Type 0 where
   pub is : r ≡ glass chip .size
-  pub fits : r ≤ mostLines * tall * bytesAcross
+  pub fits : r ≤ mostFrameSize
 
 -- dot (r, x) of a chip's frame is lit: its bit is 1. None is outside, nor in a frame of another size
 abbrev pub litAt : ℕ → List ℕ → ℕ → ℕ → Bool

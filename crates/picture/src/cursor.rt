@@ -37,7 +37,7 @@ pub(crate) fn here(registers: Registers, on: usize, at: usize) -> bool
     (on == line(chip, address)) & (at == position(chip, address, registers.shift))
 }
 
-// The cursor that the registers show, as a line or as a blink.
+// The cursor that the registers show, as a row of dots or as a blink.
 pub fn shown(registers: Registers) -> Cursor
     ensures { λ r. ⌜ r ≡ cursorOf registers ⌝ }
 {

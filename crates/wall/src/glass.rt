@@ -2,6 +2,7 @@
 ghost use mathlib.Core.Path.{_≡_};
 ghost use lib.ListN.{length};
 ghost use Rattle.desk.specs.Bytes.{fileBytes};
+ghost use Rattle.picture.specs.Frame.{mostFrameSize};
 ghost use Rattle.picture.specs.Paint.{frameAfter};
 use crate::bitmap::write_bitmap;
 use crate::codes::show_codes;
@@ -58,7 +59,7 @@ fn show_lent(panel: Panel, font: Bytes, wanted: Wanted, frame: &mut [u8]) {
 
 // Room for the frame of either chip; no dot is lit.
 fn blank() -> [u8; MOST_FRAME_SIZE]
-    ensures { λ r. ⌜ 160 ≡ length r ⌝ }
+    ensures { λ r. ⌜ mostFrameSize ≡ length r ⌝ }
 {
     [0; MOST_FRAME_SIZE]
 }
