@@ -3,12 +3,9 @@ mod bitmap;
 mod codes;
 mod draw;
 mod font;
+mod glass;
 mod watch;
 
-use bitmap::write_bitmap;
-use codes::show_codes;
-use codes::show_cursor;
-use codes::show_text;
 use desk::arguments::GROUPS;
 use desk::arguments::Given;
 use desk::arguments::asked;
@@ -20,14 +17,11 @@ use desk::number::number_at;
 use desk::print::complain;
 use desk::told::Told;
 use desk::told::told_at;
-use draw::draw;
-use draw::painted;
+use glass::Wanted;
+use glass::show_glass;
 use mirror::panel::Panel;
 use mirror::stream::Stream;
-use picture::cursor::shown;
-use picture::frame::FRAME_SIZE;
 use picture::pattern::FONT_SIZE;
-use picture::screen::codes;
 use watch::FOREVER;
 use watch::watch_all;
 
@@ -77,16 +71,6 @@ fn font_at(place: usize) -> Bytes {
     Bytes { ok: false, ..file }
 }
 
-fn show_glass(frame: [u8; FRAME_SIZE], panel: Panel, ascii: bool) {
-    let sheet = panel.sheet;
-    let registers = sheet.registers;
-    draw(frame, !ascii);
-    let line = codes(sheet);
-    show_text(line);
-    show_codes(line);
-    show_cursor(shown(registers));
-}
-
 // Watches the log up to the time, then shows what the glass did.
 fn show_all(places: [usize; GROUPS], told: Told, until: u64, font: Bytes) {
     let mut block = [0; BLOCK];
@@ -99,12 +83,12 @@ fn show_all(places: [usize; GROUPS], told: Told, until: u64, font: Bytes) {
     let stream = seen.stream;
     let run = stream.end();
     let panel = run.panel;
-    let frame = painted(panel, font, places[DARK] != 0);
-    if places[PBM] != 0 {
-        write_bitmap(frame);
-    } else {
-        show_glass(frame, panel, places[ASCII] != 0);
-    }
+    let wanted = Wanted {
+        bitmap: places[PBM] != 0,
+        marks: places[ASCII] != 0,
+        dark: places[DARK] != 0,
+    };
+    show_glass(panel, font, wanted);
 }
 
 // What was asked for.

@@ -1,6 +1,6 @@
 use borrow.Author.Needs.{needs}
-use Rattle.wall.proofs.draw.painted.Statement.{statement}
-use Rattle.wall.proofs.draw.painted.Tie as tie
+use Rattle.wall.proofs.glass.painted.Statement.{statement}
+use Rattle.wall.proofs.glass.painted.Tie as tie
 
 slice-aggregate-held : tie.Need-slice-aggregate-held
 slice-aggregate-held c = search needs
@@ -14,14 +14,14 @@ array-share-prefix-dots c = search needs
 slice-aggregate-paint : tie.Need-slice-aggregate-paint
 slice-aggregate-paint c = search needs
 
-slice-aggregate-paint-2 : tie.Need-slice-aggregate-paint-2
-slice-aggregate-paint-2 c = search needs
-
 paint-requires : tie.Need-paint-requires
 paint-requires c κs = search needs
 
+same-length : tie.Need-same-length
+same-length c = search needs
+
 returns : tie.Need-returns
-returns c = rw (c .before .paint .ensures .left, c .before .before .before .before .held .ensures .is)
+returns c = rw (c .before .before .paint .ensures .left, c .before .before .before .before .before .held .ensures .is)
 
 pub painted-spec : {M : Type 1} → statement M
 painted-spec =
@@ -31,6 +31,6 @@ painted-spec =
     held-requires
     array-share-prefix-dots
     slice-aggregate-paint
-    slice-aggregate-paint-2
     paint-requires
+    same-length
     returns)

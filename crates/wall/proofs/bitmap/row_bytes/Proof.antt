@@ -1,19 +1,19 @@
+use borrow.Author.Needs.{needs}
 -- The bytes are filled from the front.
-use Prim.Native.Nat.{_-_, _*_, _/_, _%_}
+use Prim.Native.Nat.{_-_, _*_}
 use mathlib.Core.Path.{refl}
 use native.Mathlib.Omega.{arith}
 use Rattle.dots.specs.laws.TableLaws.{Filled, fill-start, fill-step, fill-end}
-use Rattle.picture.specs.Frame.{glass}
-use Rattle.wall.specs.Draw.{eightOf, rowSize}
-use borrow.Author.Needs.{needs}
-use Rattle.wall.proofs.bitmap.bitmap.Statement.{statement}
-use Rattle.wall.proofs.bitmap.bitmap.Tie as tie
+use Rattle.picture.specs.Frame.{bytesAcross}
+use Rattle.wall.specs.Draw.{eightOf}
+use Rattle.wall.proofs.bitmap.row_bytes.Statement.{statement}
+use Rattle.wall.proofs.bitmap.row_bytes.Tie as tie
 
 abbrev Inv-loop : tie.InvT-loop
-Inv-loop frame bytes₀ i₀ bytes i = Filled (λ i. eightOf frame (i / rowSize) (i % rowSize * 8)) (glass .rows * rowSize) bytes i
+Inv-loop chip frame row bytes₀ i₀ bytes i = Filled (λ i. eightOf chip frame row (8 * i)) bytesAcross bytes i
 
 abbrev μ-loop : tie.MeasureT-loop
-μ-loop frame bytes₀ i₀ bytes i = glass .rows * rowSize - i
+μ-loop chip frame row bytes₀ i₀ bytes i = bytesAcross - i
 
 loop-holds : tie.Need-loop-holds Inv-loop μ-loop
 loop-holds c = fill-start _ _ _ refl
@@ -39,8 +39,8 @@ loop-again c = fill-step _ _ _ _ _ (c .before .before .loop .inv) (omega arith) 
 returns : tie.Need-returns Inv-loop μ-loop
 returns c = fill-end _ _ _ _ (c .before .loop .inv) (omega arith)
 
-pub bitmap-spec : {M : Type 1} → statement M
-bitmap-spec =
+pub row-bytes-spec : {M : Type 1} → statement M
+row-bytes-spec =
     tie.close
     (tie.spec
     Inv-loop
