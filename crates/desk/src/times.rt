@@ -21,6 +21,13 @@ pub struct Timed {
     pub short: u16,
 }
 
+pub(crate) const NO_TIMES: Timed = Timed {
+    ok: false,
+    reset: 0,
+    long: 0,
+    short: 0,
+};
+
 // The times that three words write.
 pub fn times_of(reset: &[u8], long: &[u8], short: &[u8]) -> Timed
     ensures { λ r. ⌜ r ≡ timesOf (now (reset .entry)) (now (long .entry)) (now (short .entry)) ⌝ }
@@ -36,12 +43,7 @@ pub fn times_of(reset: &[u8], long: &[u8], short: &[u8]) -> Timed
             short: third.value as u16,
         };
     }
-    Timed {
-        ok: false,
-        reset: 0,
-        long: 0,
-        short: 0,
-    }
+    NO_TIMES
 }
 
 // The times that the three arguments from a place on write, for a program; the usual ones where none were given. What

@@ -1,5 +1,6 @@
 // What a program is told of the panel that it starts from: the chip and the three times.
 use crate::chips::chip_at;
+use crate::times::NO_TIMES;
 use crate::times::Timed;
 use crate::times::times_at;
 
@@ -17,12 +18,7 @@ pub fn told_at(program: &[u8], chip: usize, times: usize) -> Told {
         return Told {
             ok: false,
             chip: named.chip,
-            times: Timed {
-                ok: false,
-                reset: 0,
-                long: 0,
-                short: 0,
-            },
+            times: NO_TIMES,
         };
     }
     let timed = times_at(program, times);
