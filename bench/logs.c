@@ -1,4 +1,4 @@
-// logs KIND RECORDS: writes a log for the benchmark to standard output. Kinds: eight (width 8, mostly taken writes, with
+// logs KIND RECORDS CHIP: writes a log for the benchmark to standard output, for a box with the chip 6631 or 6635. Kinds: eight (width 8, mostly taken writes, with
 // polling), four (width 4, in halves), damage (random damage to either).
 #include <stdint.h>
 #include <stdio.h>
@@ -33,9 +33,10 @@ static void record(uint64_t time, int control, int byte) {
 }
 
 int main(int argc, char **argv) {
-    if (argc != 3) return 2;
+    if (argc != 4) return 2;
     int four = !strcmp(argv[1], "four");
     long records = atol(argv[2]);
+    int places = strcmp(argv[3], "6635") ? 16 : 32;
     uint64_t time = 0;
     damaged = !strcmp(argv[1], "damage");
     if (four) record(time, 0, 0x20);
@@ -45,7 +46,7 @@ int main(int argc, char **argv) {
             control = 2;
         } else if (what >= 75 && what < 97) {
             control = 0;
-            byte = 0x80 + next() % 16;
+            byte = 0x80 + next() % places;
         } else if (what >= 97) {
             control = 0;
             byte = 1;

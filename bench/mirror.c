@@ -1,5 +1,7 @@
 // The mirror's logic in plain C, written for speed: the twin that `glazomir` is measured against. It reads a log on
-// standard input in blocks of 32 KiB and prints the same twelve lines.
+// standard input in blocks of 32 KiB and prints the same twelve lines. It serves both chips, as the mirror does: `chip 6635`
+// has two lines. The last place of display memory, 15 or 31, is handed in beside the panel: in it, it would be read again
+// after every byte that is stored.
 #include <stdint.h>
 #include <stdio.h>
 #include <string.h>
@@ -11,7 +13,7 @@ enum { RESET_TIME = 10000, LONG_TIME = 1640, SHORT_TIME = 40 };
 
 typedef struct {
     uint64_t busy, last, counts[8], records;
-    uint8_t display[16], pattern[32];
+    uint8_t display[32], pattern[32];
     uint8_t in_pattern, address, shift;
     uint8_t up, follow, on, cursor, blink, eight, function;
     uint8_t half, half_rs, half_rw, nibble;
@@ -28,15 +30,15 @@ static void fresh(panel *p) {
     p->half = EMPTY;
 }
 
-static inline void step(panel *p, int up) {
-    uint8_t last = p->in_pattern ? 31 : 15;
+static inline void step(panel *p, uint8_t last_place, int up) {
+    uint8_t last = p->in_pattern ? 31 : last_place;
     p->address = (p->address + (up ? 1 : last)) & last;
 }
 
-static inline void obey(panel *p, uint8_t code) {
+static inline void obey(panel *p, uint8_t last_place, uint8_t code) {
     if (code >= 0x80) {
         p->in_pattern = 0;
-        p->address = code & 15;
+        p->address = code & last_place;
     } else if (code >= 0x40) {
         p->in_pattern = 1;
         p->address = code & 31;
@@ -46,7 +48,7 @@ static inline void obey(panel *p, uint8_t code) {
     } else if (code >= 0x18) {
         p->shift = (p->shift + (code & 4 ? 15 : 1)) & 15;
     } else if (code >= 0x10) {
-        step(p, code >> 2 & 1);
+        step(p, last_place, code >> 2 & 1);
     } else if (code >= 0x08) {
         p->on = code >> 2 & 1;
         p->cursor = code >> 1 & 1;
@@ -63,25 +65,25 @@ static inline void obey(panel *p, uint8_t code) {
     }
 }
 
-static inline void store(panel *p, uint8_t byte) {
+static inline void store(panel *p, uint8_t last_place, uint8_t byte) {
     if (p->in_pattern) {
         p->pattern[p->address] = byte & 31;
-        step(p, p->up);
+        step(p, last_place, p->up);
     } else {
         p->display[p->address] = byte;
-        step(p, p->up);
+        step(p, last_place, p->up);
         if (p->follow) p->shift = (p->shift + (p->up ? 1 : 15)) & 15;
     }
 }
 
-static inline int finish(panel *p, uint64_t time, int rs, uint8_t byte) {
+static inline int finish(panel *p, uint8_t last_place, uint64_t time, int rs, uint8_t byte) {
     if (rs) {
-        store(p, byte);
+        store(p, last_place, byte);
         p->busy = time + SHORT_TIME;
         return TAKEN;
     }
     if (byte == 0) return NONE;
-    obey(p, byte);
+    obey(p, last_place, byte);
     p->busy = time + (byte < 4 ? LONG_TIME : SHORT_TIME);
     return TAKEN;
 }
@@ -110,17 +112,17 @@ static inline int completes(panel *p, uint64_t time, int rs, int rw) {
     return p->half == WAITING && p->half_rs == rs && !p->half_rw;
 }
 
-static inline int transfer(panel *p, uint64_t time, int rs, int rw, uint8_t byte) {
+static inline int transfer(panel *p, uint8_t last_place, uint64_t time, int rs, int rw, uint8_t byte) {
     p->last = time;
     if (completes(p, time, rs, rw)) {
         uint8_t whole = p->eight ? byte : p->nibble << 4 | byte >> 4;
         p->half = EMPTY;
-        return finish(p, time, rs, whole);
+        return finish(p, last_place, time, rs, whole);
     }
     if (p->eight) {
         if (rw && !rs) return STATUS;
         if (time < p->busy || !rw) return IGNORED;
-        step(p, p->up);
+        step(p, last_place, p->up);
         p->busy = time + SHORT_TIME;
         return TAKEN;
     }
@@ -130,17 +132,17 @@ static inline int transfer(panel *p, uint64_t time, int rs, int rw, uint8_t byte
     if (p->half_rs != rs || p->half_rw != rw) return TORN;
     if (missed) return IGNORED;
     if (!rs) return STATUS;
-    step(p, p->up);
+    step(p, last_place, p->up);
     p->busy = time + SHORT_TIME;
     return TAKEN;
 }
 
 // A transfer of the right length: its time and control are tested here.
-static inline int usable(panel *p, const uint8_t *r) {
+static inline int usable(panel *p, uint8_t last_place, const uint8_t *r) {
     uint64_t time;
     memcpy(&time, r + 4, 8);
     if (time >> 48 != 0 || r[12] > 3) return BAD;
-    return time < p->last ? BACK : transfer(p, time, r[12] & 1, r[12] >> 1, r[13]);
+    return time < p->last ? BACK : transfer(p, last_place, time, r[12] & 1, r[12] >> 1, r[13]);
 }
 
 static inline int reset(panel *p, const uint8_t *r) {
@@ -156,14 +158,14 @@ static inline int reset(panel *p, const uint8_t *r) {
 
 // Every whole record at the front; answers how many bytes they are, or sets cut where a length is wrong. One look at the
 // first four bytes tells a transfer of the right length, as in the mirror.
-static size_t consume(panel *p, const uint8_t *log, size_t n, int *cut) {
+static size_t consume(panel *p, uint8_t last_place, const uint8_t *log, size_t n, int *cut) {
     size_t at = 0;
     while (n - at >= 2) {
         const uint8_t *r = log + at;
         uint32_t head;
         uint16_t length, kind;
         if (n - at >= 14 && (memcpy(&head, r, 4), head == 0x1000C)) {
-            p->counts[usable(p, r)]++;
+            p->counts[usable(p, last_place, r)]++;
             p->records++;
             at += 14;
             continue;
@@ -184,21 +186,22 @@ static size_t consume(panel *p, const uint8_t *log, size_t n, int *cut) {
 
 static uint8_t block[32768 + 66];
 
-int main(void) {
+int main(int argc, char **argv) {
     static const char *names[] = {"taken", "held", "status", "ignored", "torn", "back", "bad", "none"};
     panel p = {0};
     size_t kept = 0;
     int cut = 0;
     ssize_t got;
+    uint8_t last_place = argc > 2 && !strcmp(argv[2], "6635") ? 31 : 15;
     fresh(&p);
     while (!cut && (got = read(0, block + kept, 32768)) > 0) {
-        size_t n = kept + got, used = consume(&p, block, n, &cut);
+        size_t n = kept + got, used = consume(&p, last_place, block, n, &cut);
         kept = n - used;
         memmove(block, block + used, kept);
     }
     printf("records %llu\n", (unsigned long long)p.records);
     for (int i = 0; i < 8; i++) printf("%s %llu\n", names[i], (unsigned long long)p.counts[i]);
     printf("cut %d\n%s %02X\ncodes", cut || kept, p.in_pattern ? "pattern" : "address", p.address);
-    for (int i = 0; i < 16; i++) printf(" %02X", p.display[i]);
+    for (int i = 0; i <= last_place; i++) printf(" %02X", p.display[i]);
     printf("\n");
 }

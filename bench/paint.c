@@ -1,34 +1,34 @@
 // The painter in plain C, written for speed: the twin that `paintings` is measured against. It paints the panel that a log
-// leaves as often, with the same font, shifts and blink, and prints the same two lines.
+// leaves as often, with the same font, shifts and blink, and prints the same two lines, for either chip.
 #define main mirror_main
 #include "mirror.c"
 #undef main
 
-static uint8_t font[1920], frame[80];
+static uint8_t font[1920], frame[160];
 
-static int sound(const panel *p) {
-    if (p->address > (p->in_pattern ? 31 : 15) || p->shift > 15 || p->function > 15) return 0;
+static int sound(const panel *p, uint8_t last_place) {
+    if (p->address > (p->in_pattern ? 31 : last_place) || p->shift > 15 || p->function > 15) return 0;
+    for (int i = last_place + 1; i < 32; i++)
+        if (p->display[i] != 0x20) return 0;
     for (int i = 0; i < 32; i++)
         if (p->pattern[i] > 31) return 0;
     if (p->half != EMPTY && (p->eight || p->nibble > 15)) return 0;
     return p->last >> 48 == 0 && p->busy < (1ull << 48) + 65536;
 }
 
-static int paint(const panel *p, int dark) {
-    if (!sound(p)) return 0;
-    int lit = 0;
-    memset(frame, 0, sizeof frame);
-    if (!p->on) return 0;
-    int cursor = (p->address + 16 - p->shift) & 15;
+// One line, from its first byte on. A function of its own that is told that a frame is no part of a panel is faster by a
+// sixteenth than the loop within the other.
+__attribute__((noinline)) static int put_line(const panel *restrict p, uint8_t *restrict top, int line, int cursor, int dark) {
+    int lit = 0, blink = p->blink && dark, under = p->cursor, shift = p->shift;
     for (int cell = 0; cell < 16; cell++) {
-        uint8_t code = p->display[(cell + p->shift) & 15];
+        uint8_t code = p->display[16 * line + ((cell + shift) & 15)];
         const uint8_t *rows = code < 16 ? p->pattern + 8 * (code & 3) : font + 8 * (code - 16);
         for (int r = 0; r < 8; r++) {
             uint8_t dots = rows[r] & 31;
-            if (cell == cursor && ((p->blink && dark) || (p->cursor && r == 7))) dots = 31;
+            if (cell == cursor && (blink || (under && r == 7))) dots = 31;
             for (int c = 0; c < 5; c++) {
                 int x = 5 * cell + c, v = dots >> (4 - c) & 1;
-                frame[10 * r + x / 8] |= v << (7 - x % 8);
+                top[10 * r + x / 8] |= v << (7 - x % 8);
                 lit += v;
             }
         }
@@ -36,21 +36,33 @@ static int paint(const panel *p, int dark) {
     return lit;
 }
 
-int main(void) {
+static int paint(const panel *p, uint8_t last_place, int dark) {
+    if (!sound(p, last_place)) return 0;
+    int lit = 0, lines = last_place / 16 + 1;
+    memset(frame, 0, 80 * lines);
+    if (!p->on) return 0;
+    int cursor_line = p->address / 16 % lines, cursor = (p->address + 16 - p->shift) & 15;
+    for (int line = 0; line < lines; line++)
+        lit += put_line(p, frame + 80 * line, line, line == cursor_line ? cursor : -1, dark);
+    return lit;
+}
+
+int main(int argc, char **argv) {
     static uint8_t whole[65536];
     panel p = {0};
     int cut = 0;
+    uint8_t last_place = argc > 2 && !strcmp(argv[2], "6635") ? 31 : 15;
     fresh(&p);
     ssize_t got = read(0, whole, sizeof whole);
-    consume(&p, whole, got > 0 ? got : 0, &cut);
+    consume(&p, last_place, whole, got > 0 ? got : 0, &cut);
     for (int i = 0; i < 1920; i++) font[i] = 37 * i + 5;
     p.on = p.cursor = p.blink = 1;
     uint64_t total = 0;
     for (uint32_t i = 0; i < 100000; i++) {
         p.shift = i % 16;
-        total = (total + paint(&p, i % 2)) % 1000000007;
+        total = (total + paint(&p, last_place, i % 2)) % 1000000007;
     }
     printf("%llu\n", (unsigned long long)total);
-    for (int i = 0; i < 80; i++) printf("%02X", frame[i]);
+    for (int i = 0; i < 5 * (last_place + 1); i++) printf("%02X", frame[i]);
     printf("\n");
 }

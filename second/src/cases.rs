@@ -1,8 +1,11 @@
 //! The rules' own cases A to M, the examples of the report and of the wall, the
-//! sample night, and the four-record example.
+//! sample night, and the four-record example; those of two lines by themselves.
+
+mod two_lines;
 
 use crate::arguments;
 use crate::chip::{Counter, DisplayAddress, PatternAddress, Sheet};
+use crate::chips::Chip;
 use crate::log;
 use crate::panel::{self, Panel, Run, Times};
 use crate::picture::{self, Painting, FONT_SIZE};
@@ -12,6 +15,7 @@ use crate::wall::{self, Asked, Form};
 
 pub struct Case {
     pub name: &'static str,
+    pub chip: Chip,
     pub log: Vec<u8>,
     holds: fn(&Panel, &Run, &[u8]) -> bool,
 }
@@ -44,11 +48,16 @@ fn at_display(sheet: &Sheet, address: u8) -> bool {
 }
 
 fn case(name: &'static str, log: Vec<u8>, holds: fn(&Panel, &Run, &[u8]) -> bool) -> Case {
-    Case { name, log, holds }
+    Case { name, chip: Chip::ONE_LINE, log, holds }
+}
+
+fn fresh(chip: Chip) -> Panel {
+    Panel::fresh(chip, Times::USUAL)
 }
 
 pub fn all() -> Vec<Case> {
-    let mut all = busy_and_halves();
+    let mut all = two_lines::all();
+    all.extend(busy_and_halves());
     all.extend(steps());
     all.extend(reports());
     all.extend(pictures_and_prints());
@@ -118,9 +127,11 @@ fn reports() -> Vec<Case> {
         (1_741, DATA, 0x57), (1_700, STATUS, 0),
     ]);
     vec![
-        case("the report's example", example, |_, _, log| page::print(log) == REPORT_EXAMPLE),
+        case("the report's example", example, |_, _, log| {
+            page::print(&fresh(Chip::ONE_LINE), log) == REPORT_EXAMPLE
+        }),
         case("the sample night", NIGHT.to_vec(), |_, _, log| {
-            let print = page::print(log);
+            let print = page::print(&fresh(Chip::ONE_LINE), log);
             let answers: Vec<_> = print.lines().filter_map(|line| line.split('\t').nth(4)).collect();
             let counted = ["ignored", "torn", "back", "bad", "none"]
                 .map(|answer| answers.iter().filter(|&&other| other == answer).count());
@@ -132,20 +143,22 @@ fn reports() -> Vec<Case> {
 fn pictures_and_prints() -> Vec<Case> {
     let four = at_times(&[(100, INSTRUCTION, 1), (200, DATA, 0x57), (1_740, DATA, 0x57), (1_780, STATUS, 0)]);
     vec![
-        // Code 20h is blank in the trial font.
         case("L", forty_apart(&[(INSTRUCTION, 0x0E)]), |panel, _, _| {
             let (painting, frame) = painted(panel);
             let others_dark = (0..80).all(|at| at == 70 || frame[at] == 0);
             painting == Painting::Lit(5) && frame[70] == 0xF8 && others_dark
         }),
         case("M", Vec::new(), |panel, run, _| {
-            run.counts == [0; 8] && !run.cut && *panel == Panel::fresh(Times::USUAL)
+            run.counts == [0; 8] && !run.cut && *panel == fresh(Chip::ONE_LINE)
         }),
         case("the wall's example", at_times(&[(0, INSTRUCTION, 0x0E), (40, DATA, 0x57)]), |_, _, log| {
-            let asked = Asked { form: Form::Ascii, dark: false, at: None, font: None };
+            let asked =
+                Asked { form: Form::Ascii, dark: false, at: None, font: None, start: fresh(Chip::ONE_LINE) };
             wall::print(&asked, &wall_font(), log) == WALL_EXAMPLE.as_bytes()
         }),
-        case("four records, glazomir", four.clone(), |_, _, log| prints::glazomir(log) == FOUR_GLAZOMIR),
+        case("four records, glazomir", four.clone(), |_, _, log| {
+            prints::glazomir(&fresh(Chip::ONE_LINE), log) == FOUR_GLAZOMIR
+        }),
         case("four records, trace", four, |_, _, log| {
             let lent = arguments::trace(&[]).expect("no words");
             prints::trace(&lent, log) == four_trace()
@@ -153,8 +166,9 @@ fn pictures_and_prints() -> Vec<Case> {
     ]
 }
 
+/// Code 20h is blank in the trial font.
 fn painted(panel: &Panel) -> (Painting, Vec<u8>) {
-    let mut frame = vec![0xA5; 80];
+    let mut frame = vec![0xA5; panel.sheet.chip.frame_size()];
     let painting = picture::paint(panel, &picture::trial_font(), false, &mut frame);
     (painting, frame)
 }
@@ -245,6 +259,7 @@ records 4
 cut 0
 counts 2 0 1 1 0 0 0 0
 sound 1
+chip 31
 display 57 20 20 20 20 20 20 20 20 20 20 20 20 20 20 20
 pattern 00 00 00 00 00 00 00 00 00 00 00 00 00 00 00 00 00 00 00 00 00 00 00 00 00 00 00 00 00 00 00 00
 counter display 01
@@ -263,7 +278,7 @@ fn four_trace() -> String {
 
 /// Whether the model gives what the rules say for this case.
 pub fn holds(case: &Case) -> bool {
-    let mut panel = Panel::fresh(Times::USUAL);
+    let mut panel = fresh(case.chip);
     let run = panel::run(&mut panel, &case.log);
     (case.holds)(&panel, &run, &case.log)
 }

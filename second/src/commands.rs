@@ -1,12 +1,13 @@
 //! The commands that compare, that tell what is reached, and that write trials.
 
 use crate::cases;
+use crate::classes::{REPORT, WALL};
 use crate::compare::{self, Plan, Programs, Tally};
 use crate::findings;
 use crate::generator;
 use crate::questions;
 use crate::random::Random;
-use crate::reach::{Reach, REPORT, WALL};
+use crate::reach::Reach;
 use std::fs;
 use std::io;
 use std::path::{Path, PathBuf};

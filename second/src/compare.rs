@@ -2,6 +2,7 @@
 //! question and note what the questions reach.
 
 use crate::arguments::{self, Lent};
+use crate::classes::REPORT;
 use crate::demands;
 use crate::expected::{self, Expected};
 use crate::generator::Trial;
@@ -9,6 +10,7 @@ use crate::log;
 use crate::observe;
 use crate::observe_report;
 use crate::observe_wall;
+use crate::observe_words;
 use crate::panel::Panel;
 use crate::questions::{self, Question, Which};
 use crate::reach::Reach;
@@ -163,12 +165,14 @@ pub fn model_alone(question: &Question, words: &[String], tally: &Tally, reach: 
         return;
     }
     match question.which {
-        Which::Glazomir => {}
-        Which::Report if words.is_empty() => {
-            tally.reported.fetch_add(1, SeqCst);
-            observe_report::log(reach, &question.trial.log);
+        _ if matches!(words, [word] if word == "--help") => {}
+        Which::Glazomir => observe_words::glazomir(reach, &question.trial, words),
+        Which::Report => {
+            if let Some(start) = observe_words::start(reach, REPORT, &question.trial, words) {
+                tally.reported.fetch_add(1, SeqCst);
+                observe_report::log(reach, &start, &question.trial.log);
+            }
         }
-        Which::Report => {}
         Which::Wall => {
             tally.walled.fetch_add(1, SeqCst);
             observe_wall::question(reach, question, arguments::wall(words));
@@ -184,12 +188,12 @@ pub fn model_alone(question: &Question, words: &[String], tally: &Tally, reach: 
 }
 
 fn demand_three(trial: &Trial, lent: &Lent, tally: &Tally) {
-    let times = lent.panel.times;
-    if lent.panel != Panel::fresh(times) {
+    let (chip, times) = (lent.panel.sheet.chip, lent.panel.times);
+    if !lent.panel.is_sound() || lent.panel != Panel::fresh(chip, times) {
         return;
     }
     tally.demands.fetch_add(1, SeqCst);
-    if let Err(reason) = demands::check(times, &trial.log) {
+    if let Err(reason) = demands::check(chip, times, &trial.log) {
         tally.report(Finding::Demand(trial.clone(), reason));
     }
 }

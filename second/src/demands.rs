@@ -3,13 +3,14 @@
 //! answers alone, and know nothing of how the panel keeps halves.
 
 use crate::chip::{Entry, Sheet, Width};
+use crate::chips::Chip;
 use crate::log::{self, Message};
 use crate::panel::number::*;
 use crate::panel::{self, Answer, Panel, Run, Times};
 
 /// Carries out the entries answered "taken", a pair of halves as one.
-pub fn replay(log: &[u8], answers: &[Answer]) -> Sheet {
-    let mut sheet = Sheet::fresh();
+pub fn replay(chip: Chip, log: &[u8], answers: &[Answer]) -> Sheet {
+    let mut sheet = Sheet::fresh(chip);
     let mut high = 0;
     for (record, answer) in log::records(log).0.into_iter().zip(answers) {
         let Some(message) = log::message(record) else { continue };
@@ -74,21 +75,22 @@ pub fn strike(log: &[u8], answers: &[Answer]) -> Vec<u8> {
 }
 
 /// Checks demand 3 and the sum of the counts from a fresh panel.
-pub fn check(times: Times, log: &[u8]) -> Result<(), &'static str> {
-    let mut panel = Panel::fresh(times);
+pub fn check(chip: Chip, times: Times, log: &[u8]) -> Result<(), &'static str> {
+    let fresh = Panel::fresh(chip, times);
+    let mut panel = fresh.clone();
     let run = panel::run(&mut panel, log);
     if run.counts.iter().sum::<u64>() != run.records {
         return Err("the eight counts do not add up to the records");
     }
-    if replay(log, &run.answers) != panel.sheet {
+    if replay(chip, log, &run.answers) != panel.sheet {
         return Err("the replay ends with another sheet");
     }
-    check_striking(times, log, &panel, &run)
+    check_striking(fresh, log, &panel, &run)
 }
 
-fn check_striking(times: Times, log: &[u8], panel: &Panel, run: &Run) -> Result<(), &'static str> {
+fn check_striking(fresh: Panel, log: &[u8], panel: &Panel, run: &Run) -> Result<(), &'static str> {
     let struck = strike(log, &run.answers);
-    let mut again = Panel::fresh(times);
+    let mut again = fresh;
     let rerun = panel::run(&mut again, &struck);
     let kept: Vec<Answer> = run
         .answers
@@ -139,7 +141,9 @@ mod tests {
     fn demand_three_on_generated_logs() {
         for turn in 0..200 {
             let log = crate::generator::trial(7, turn).log;
-            assert_eq!(check(Times::USUAL, &log), Ok(()), "turn {turn}");
+            for chip in Chip::KNOWN {
+                assert_eq!(check(chip, Times::USUAL, &log), Ok(()), "turn {turn}, {}", chip.name());
+            }
         }
     }
 }

@@ -37,11 +37,16 @@ pub fn expected(question: &Question, words: &[String]) -> Expected {
     let log = if matches!(question.feed, Feed::Unreadable) { &[] } else { &question.trial.log[..] };
     let broken_off = |print| Expected::Complaint(print, "standard input");
     match question.which {
-        Which::Glazomir | Which::Report if !words.is_empty() => refusal("words"),
-        Which::Glazomir if fails => broken_off(String::new()),
-        Which::Glazomir => print(prints::glazomir(log)),
-        Which::Report if fails => broken_off(page::print_broken_off(log)),
-        Which::Report => print(page::print(log)),
+        Which::Glazomir => match arguments::start(words) {
+            Err(reason) => refusal(reason),
+            Ok(_) if fails => broken_off(String::new()),
+            Ok(start) => print(prints::glazomir(&start, log)),
+        },
+        Which::Report => match arguments::start(words) {
+            Err(reason) => refusal(reason),
+            Ok(start) if fails => broken_off(page::print_broken_off(&start, log)),
+            Ok(start) => print(page::print(&start, log)),
+        },
         Which::Trace => match arguments::trace(words) {
             Err(reason) => refusal(reason),
             Ok(lent) if fails => broken_off(prints::trace_broken_off(&lent, log)),
@@ -104,6 +109,7 @@ fn first_differing_line(model: &[u8], program: &[u8]) -> String {
 #[cfg(test)]
 mod tests {
     use super::*;
+    use crate::chips::Chip;
     use crate::generator::Trial;
 
     fn output(print: &str, complaint: &str, status: Option<i32>) -> Output {
@@ -113,7 +119,7 @@ mod tests {
     /// What is due of a program for some words and the log of one byte.
     fn due(which: Which, words: &[&str], feed: Feed) -> Expected {
         let words: Vec<String> = words.iter().map(|word| word.to_string()).collect();
-        expected(&Question { which, trial: Trial::of_log(vec![12]), feed }, &words)
+        expected(&Question { which, trial: Trial::of_chip(Chip::ONE_LINE, vec![12]), feed }, &words)
     }
 
     #[test]
@@ -161,8 +167,14 @@ mod tests {
     fn what_is_due_for_words() {
         for which in [Which::Glazomir, Which::Trace, Which::Report, Which::Wall] {
             assert!(matches!(due(which, &["--help"], Feed::Whole), Expected::OwnWords));
-            for words in [&["--help", "--help"][..], &["-h"], &[""]] {
+            for words in [
+                &["--help", "--help"][..], &["-h"], &[""], &["chip", "35"], &["chip"],
+                &["chip", "6635", "chip", "6635"], &["times", "1", "2"], &["times", "1", "2", "65536"],
+            ] {
                 assert!(matches!(due(which, words, Feed::Whole), Expected::Complaint(..)), "{which:?} {words:?}");
+            }
+            for words in [&["chip", "6635"][..], &["chip", "6631"], &["times", "0", "65535", "1", "chip", "6635"]] {
+                assert!(!matches!(due(which, words, Feed::Whole), Expected::Complaint(..)), "{which:?} {words:?}");
             }
         }
         assert!(matches!(due(Which::Wall, &["ascii"], Feed::Whole), Expected::Unknown), "the model has no font");

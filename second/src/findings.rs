@@ -47,7 +47,7 @@ fn print_difference(programs: &Programs, question: &Question, directory: &Path) 
 fn print_demand(trial: &Trial, reason: &str, directory: &Path) {
     let failing = |trial: &Trial| {
         let lent = arguments::trace(&trial.words(directory).ok()?).ok()?;
-        demands::check(lent.panel.times, &trial.log).err()
+        demands::check(lent.panel.sheet.chip, lent.panel.times, &trial.log).err()
     };
     let small = shrink::shrink(trial.clone(), &|trial| failing(trial).is_some());
     println!("demand 3 fails in the model: {}", failing(&small).unwrap_or(reason));

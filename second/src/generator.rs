@@ -1,6 +1,7 @@
 //! Trials: a log and what the run over it is lent, made anew from a seed and
 //! a turn. Some logs are damaged after they are sent.
 
+use crate::chips::Chip;
 use crate::lend::{self, Group, Word};
 use crate::log;
 use crate::panel::{Panel, Times};
@@ -18,13 +19,29 @@ pub struct Trial {
 }
 
 impl Trial {
-    pub fn of_log(log: Vec<u8>) -> Trial {
-        Trial { groups: Vec::new(), log }
+    /// This log, sent to a fresh panel of this chip.
+    pub fn of_chip(chip: Chip, log: Vec<u8>) -> Trial {
+        Trial { groups: lend::chip_words(chip), log }
+    }
+
+    /// What is said of the fresh panel, in words that every program takes, for
+    /// another program to hear.
+    pub fn fresh_groups(&self) -> Vec<Group> {
+        let is_taken = |group: &&Group| ["chip", "times"].iter().any(|name| group[0] == Word::Text(name.to_string()));
+        self.groups.iter().filter(is_taken).cloned().collect()
+    }
+
+    /// The chip that is named among the words, if one is.
+    pub fn chip_named(&self) -> Option<Chip> {
+        self.groups.iter().flat_map(|group| group.windows(2)).find_map(|two| match two {
+            [Word::Text(word), Word::Text(name)] if word == "chip" => Chip::named(name),
+            _ => None,
+        })
     }
 
     /// Whether a group of this name is among the words.
     pub fn gives(&self, name: &str) -> bool {
-        self.groups.iter().any(|group| group[0] == Word::Text(name.to_string()))
+        self.groups.iter().flatten().any(|word| *word == Word::Text(name.to_string()))
     }
 
     /// Writes the lent files into the directory and gives the command line.
@@ -53,7 +70,7 @@ pub fn trial(seed: u64, turn: u64) -> Trial {
     let is_refused = lending.start.is_none();
     let (panel, target) = match lending.start {
         Some(panel) => (panel, length(&mut random)),
-        None => (Panel::fresh(Times::USUAL), random.below(30) as usize),
+        None => (Panel::fresh(Chip::ONE_LINE, Times::USUAL), random.below(30) as usize),
     };
     let mut log = sender::send_log(&mut random, panel, target);
     if is_refused {
@@ -77,10 +94,10 @@ fn length(random: &mut Random) -> usize {
 
 /// A log of a few records at width 4, for runs that cost one start for each
 /// byte.
-pub fn short_log(seed: u64, turn: u64) -> Vec<u8> {
+pub fn short_log(seed: u64, chip: Chip, turn: u64) -> Vec<u8> {
     let mut random = Random::new(seed, turn);
     let first = log::write_transfer(0, 0, 0x20);
-    let mut panel = Panel::fresh(Times::USUAL);
+    let mut panel = Panel::fresh(chip, Times::USUAL);
     panel.answer(&first);
     let rest = sender::send_log(&mut random, panel, 6);
     let few = log::records(&rest).0.into_iter().take(6);
@@ -88,15 +105,16 @@ pub fn short_log(seed: u64, turn: u64) -> Vec<u8> {
 }
 
 /// A log for the report: nights of a box in haste.
-pub fn night(seed: u64, turn: u64) -> Vec<u8> {
+pub fn night(seed: u64, turn: u64) -> Trial {
     let mut random = Random::new(!seed, turn);
     let target = random.pick(&[5, 100, 400, 400, 800]);
-    let mut log = sender::send_nights(&mut random, target);
+    let (groups, panel) = lend::fresh(&mut random, 15);
+    let mut log = sender::send_nights(&mut random, panel, target);
     if random.chance(35) {
         let way = random.below(10);
         log.extend(cut_tail(&mut random, way));
     }
-    log
+    Trial { groups, log }
 }
 
 /// A few records at width 4, each with a line of its own in the report or a
@@ -127,9 +145,9 @@ pub fn endless_night() -> Vec<u8> {
 }
 
 /// A log far longer than any buffer that a program may keep.
-pub fn long_log(seed: u64) -> Vec<u8> {
+pub fn long_log(seed: u64, chip: Chip) -> Vec<u8> {
     let mut random = Random::new(seed, u64::MAX);
-    sender::send_log(&mut random, Panel::fresh(Times::USUAL), 20_000)
+    sender::send_log(&mut random, Panel::fresh(chip, Times::USUAL), 20_000)
 }
 
 /// Only what the lengths say is looked at: the log is cut, has nothing, or is
@@ -179,10 +197,32 @@ pub fn cut_tail(random: &mut Random, way: u64) -> Vec<u8> {
     };
     // Enough bytes follow, mostly, so that only the length is at fault.
     let enough = match way {
-        4 => random.pick(&[400, 66_000, 66_000]),
+        4 => random.pick(&[400, 66_000]),
         5 => 400,
         _ => 70,
     };
     tail.extend(random.bytes(enough));
     tail
+}
+
+#[cfg(test)]
+mod tests {
+    use super::*;
+
+    #[test]
+    fn about_half_of_the_logs_are_for_two_lines() {
+        let is_for_two = |trial: &Trial| trial.chip_named() == Some(Chip::TWO_LINES);
+        let logs = (0..1_000).filter(|turn| is_for_two(&trial(3, *turn))).count();
+        let nights = (0..1_000).filter(|turn| is_for_two(&night(3, *turn))).count();
+        assert!((400..600).contains(&logs) && (400..600).contains(&nights), "{logs} {nights}");
+    }
+
+    #[test]
+    fn what_another_program_hears_of_the_panel() {
+        let groups = ["records", "chip 6635", "frame 80", "times 1 2 3"].map(lend::text).to_vec();
+        let trial = Trial { groups, log: Vec::new() };
+        assert_eq!(trial.fresh_groups(), ["chip 6635", "times 1 2 3"].map(lend::text));
+        assert_eq!(trial.chip_named(), Some(Chip::TWO_LINES));
+        assert!(trial.gives("times") && !trial.gives("panel"));
+    }
 }

@@ -2,8 +2,9 @@
 //! bytes, so that a turned or mirrored glyph shows, and often a time to look at.
 
 use crate::cases;
+use crate::chips::Chip;
 use crate::generator::{self, Trial};
-use crate::lend::{files, text, Group, Word};
+use crate::lend::{self, files, text, Group, Word};
 use crate::log::{self, TIME_LIMIT};
 use crate::panel::number::{BACK, BAD};
 use crate::panel::{Panel, Times};
@@ -33,25 +34,30 @@ pub fn trial(seed: u64, number: u64) -> Trial {
     let mut random = random_of(seed, number);
     let target = random.pick(&[0, 20, 60, 120]);
     let scene = scene(&mut random, number);
-    let mut log = sender::send_glass(&mut random, target, scene);
+    let (groups, fresh) = lend::fresh(&mut random, 12);
+    let mut log = sender::send_glass(&mut random, fresh.clone(), target, scene);
     match random.below(20) {
-        0..=2 => cut(&mut random, &mut log),
-        3 => log.clear(),
+        0..=3 => cut(&mut random, &mut log),
+        4 => log.clear(),
         _ => {}
     }
-    let at = random.chance(60).then(|| time_to_ask(&mut random, &log));
-    asked(&mut random, at, log)
+    let at = random.chance(60).then(|| time_to_ask(&mut random, &fresh, &log));
+    asked(&mut random, groups, at, log)
+}
+
+fn usual(chip: Chip) -> Panel {
+    Panel::fresh(chip, Times::USUAL)
 }
 
 /// Every shift with the cursor on, and every code: sixteen trials, so that
 /// these are not left to chance.
-pub fn shifts(seed: u64) -> Vec<Trial> {
+pub fn shifts(seed: u64, chip: Chip) -> Vec<Trial> {
     let shown = |number: u64| {
         let mut random = random_of(seed, 1_000_000 + number);
         let screen = random.pick(&[5, 6, 7]);
         let scene = Scene { screen, first_code: 16 * number as u8, ..scene(&mut random, number) };
-        let log = sender::send_glass(&mut random, 0, scene);
-        Trial { groups: words(&mut random, "ascii", None), log }
+        let log = sender::send_glass(&mut random, usual(chip), 0, scene);
+        Trial { groups: words(&mut random, lend::chip_words(chip), "ascii", None), log }
     };
     (0..16).map(shown).collect()
 }
@@ -60,24 +66,44 @@ pub fn shifts(seed: u64) -> Vec<Trial> {
 /// for odd numbers, into a later one. Its first record is bad and of another length each time, so that
 /// a block ends anywhere in a record.
 pub fn long_trial(seed: u64, number: u64) -> Trial {
+    let chip = Chip::KNOWN[number as usize / 2 % 2];
     let mut random = random_of(!seed, number);
     let mut log = log::write_record(9, &random.bytes(number as usize % 14));
     let scene = scene(&mut random, number);
-    log.extend(sender::send_glass(&mut random, 5_500, scene));
+    log.extend(sender::send_glass(&mut random, usual(chip), 5_500, scene));
     let blocks = if number % 2 == 0 { 1..2 } else { 2..usize::MAX };
-    let later: Vec<u64> = moments(&log)
+    let later: Vec<u64> = moments(&usual(chip), &log)
         .iter()
         .filter(|moment| moment.has_a_say && blocks.contains(&(moment.offset / BLOCK)))
         .filter_map(|moment| moment.time)
         .collect();
     let time = random.pick(&later);
     let at = random.pick(&[time, time, time.saturating_sub(1), time + 1]).min(TIME_LIMIT);
-    asked(&mut random, Some(at), log)
+    asked(&mut random, lend::chip_words(chip), Some(at), log)
 }
 
 /// This log, asked for as it ends.
-pub fn whole_log(seed: u64, log: Vec<u8>) -> Trial {
-    asked(&mut random_of(seed, 0), None, log)
+pub fn whole_log(seed: u64, chip: Chip, log: Vec<u8>) -> Trial {
+    asked(&mut random_of(seed, 0), lend::chip_words(chip), None, log)
+}
+
+/// Two lines, a letter on each, at every time at which the glass changes.
+pub fn two_lines_by_time() -> Vec<Trial> {
+    let (instruction, data) = (0, 1);
+    let sent = [
+        (instruction, 0x0E), (data, 0x57), (instruction, 0x90), (data, 0x57), (instruction, 0x18), (instruction, 0x53),
+    ];
+    let times = (0..).step_by(40);
+    let log: Vec<u8> =
+        times.zip(sent).flat_map(|(time, (control, byte))| log::write_transfer(time, control, byte)).collect();
+    let asked = |words: String| {
+        let groups = vec![text(&words), text("chip 6635"), files("font", vec![cases::wall_font()])];
+        Trial { groups, log: log.clone() }
+    };
+    let mut trials: Vec<Trial> = (0..7).map(|n| asked(format!("ascii at {}", 40 * n))).collect();
+    let others = ["ascii at 119", "pbm at 120", "pbm dark", "at 200 dark ascii"];
+    trials.extend(others.map(|words| asked(words.to_string())));
+    trials
 }
 
 /// The example of docs/WALL.md with its font, and logs of hardly anything.
@@ -106,7 +132,7 @@ pub fn refused(seed: u64) -> Vec<Trial> {
     let wordings = [
         "bogus", "ascii pbm", "pbm dark ascii", "ascii ascii", "dark pbm dark", "at", "at 1 at 1", "at -1", "at x",
         "at 0x10", "at 281474976710657", "at 18446744073709551616", "ascii at dark", "--help", "records", "Ascii",
-        "frame 80", "times 1 2 3",
+        "frame 80",
     ];
     let mut trials: Vec<Trial> =
         wordings.map(|words| Trial { groups: vec![text(words), font.clone()], log: log.clone() }).into();
@@ -121,14 +147,14 @@ pub fn refused(seed: u64) -> Vec<Trial> {
 }
 
 /// A question for this log, drawn in either way.
-fn asked(random: &mut Random, at: Option<u64>, log: Vec<u8>) -> Trial {
+fn asked(random: &mut Random, groups: Vec<Group>, at: Option<u64>, log: Vec<u8>) -> Trial {
     let form = random.pick(&["ascii", "ascii", "pbm"]);
-    Trial { groups: words(random, form, at), log }
+    Trial { groups: words(random, groups, form, at), log }
 }
 
 /// The words, in any order, with a font of random bytes; half of them dark.
-fn words(random: &mut Random, form: &str, at: Option<u64>) -> Vec<Group> {
-    let mut groups = vec![text(form), files("font", vec![random.bytes(FONT_SIZE)])];
+fn words(random: &mut Random, mut groups: Vec<Group>, form: &str, at: Option<u64>) -> Vec<Group> {
+    groups.extend([text(form), files("font", vec![random.bytes(FONT_SIZE)])]);
     if random.flag() {
         groups.push(text("dark"));
     }
@@ -161,9 +187,9 @@ pub struct Moment {
     pub busy_end: u64,
 }
 
-/// All records of a log, sent to a fresh panel.
-pub fn moments(log: &[u8]) -> Vec<Moment> {
-    let mut panel = Panel::fresh(Times::USUAL);
+/// All records of a log, sent to this panel.
+pub fn moments(start: &Panel, log: &[u8]) -> Vec<Moment> {
+    let mut panel = start.clone();
     let mut moments = Vec::new();
     let mut offset = 0;
     for record in log::records(log).0 {
@@ -177,8 +203,8 @@ pub fn moments(log: &[u8]) -> Vec<Moment> {
 
 /// A time at, just before or just after a record's, good or not; a busy end;
 /// or one of the two ends of time.
-fn time_to_ask(random: &mut Random, log: &[u8]) -> u64 {
-    let moments = moments(log);
+fn time_to_ask(random: &mut Random, start: &Panel, log: &[u8]) -> u64 {
+    let moments = moments(start, log);
     let wants_good = random.chance(75);
     let sort: Vec<&Moment> =
         moments.iter().filter(|moment| moment.has_a_say == wants_good && moment.time.is_some()).collect();

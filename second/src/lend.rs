@@ -1,13 +1,13 @@
-//! What generated runs are lent: times, panels sound and unsound, bytes that
-//! are no panel, fonts and frames of good and wrong sizes, and words that
-//! `trace` must refuse.
+//! What generated runs are lent: chips and times, `panels`, fonts and frames of
+//! good and wrong sizes, and words that `trace` must refuse.
 //!
 //! Where there are many sorts, they go by turn instead of by chance, so that
 //! none is left out.
 
-use crate::chip::{Counter, DisplayAddress, PatternAddress, Sheet, Width};
-use crate::log::TIME_LIMIT;
-use crate::panel::{Half, Panel, Times, BUSY_END_LIMIT};
+pub mod panels;
+
+use crate::chips::Chip;
+use crate::panel::{Panel, Times};
 use crate::panel_file;
 use crate::random::Random;
 
@@ -41,30 +41,41 @@ pub fn files(word: &str, contents: Vec<Vec<u8>>) -> Group {
     group
 }
 
-pub fn lend(random: &mut Random, turn: u64) -> Lending {
-    let mut groups = Vec::new();
-    let mut start = Some(Panel::fresh(Times::USUAL));
-    if random.chance(33) {
-        let times = some_times(random);
-        groups.push(text(&format!("times {} {} {}", times.reset, times.long, times.short)));
-        start = Some(Panel::fresh(times));
+/// The words for a fresh panel of this chip: none are needed for one line.
+pub fn chip_words(chip: Chip) -> Vec<Group> {
+    if chip == Chip::ONE_LINE { Vec::new() } else { vec![text(&format!("chip {}", chip.name()))] }
+}
+
+/// A fresh panel of either chip, and the words for it; `percent` of them have
+/// other times than the usual ones.
+pub fn fresh(random: &mut Random, percent: u64) -> (Vec<Group>, Panel) {
+    let chip = random.pick(&Chip::KNOWN);
+    let mut groups = chip_words(chip);
+    if groups.is_empty() && random.chance(40) {
+        groups.push(text(&format!("chip {}", chip.name())));
     }
+    let mut times = Times::USUAL;
+    if random.chance(percent) {
+        times = some_times(random);
+        groups.push(text(&format!("times {} {} {}", times.reset, times.long, times.short)));
+    }
+    (groups, Panel::fresh(chip, times))
+}
+
+pub fn lend(random: &mut Random, turn: u64) -> Lending {
+    let (mut groups, fresh) = fresh(random, 33);
+    let mut chip = fresh.sheet.chip;
+    let mut start = Some(fresh);
     if turn % 4 == 1 {
-        let bytes = panel_bytes(random, turn / 4);
-        start = panel_file::read(&bytes).ok().filter(Panel::is_sound);
+        let bytes = panels::some_bytes(random, turn / 4);
+        let panel = panel_file::read(&bytes).ok();
+        chip = panel.as_ref().map_or(chip, |panel| panel.sheet.chip);
+        start = panel.filter(Panel::is_sound);
         groups.push(files("panel", vec![bytes]));
     }
-    if random.chance(20) {
-        groups.push(files("font", vec![font(random)]));
-    }
-    if random.chance(15) {
-        let any = random.below(201);
-        groups.push(text(&format!("frame {}", random.pick(&[80, 0, 79, 81, 1, 200, any]))));
-    }
-    if random.chance(15) {
-        let (one, other) = frames(random);
-        groups.push(files("frames", vec![one, other]));
-    }
+    // Of an unknown chip, either size would do.
+    let sized = if chip.is_known() { chip } else { random.pick(&Chip::KNOWN) };
+    groups.extend(pictures(random, sized));
     if random.chance(33) {
         groups.push(text("records"));
     }
@@ -78,7 +89,31 @@ pub fn lend(random: &mut Random, turn: u64) -> Lending {
     Lending { groups, start }
 }
 
-fn some_times(random: &mut Random) -> Times {
+/// What the painter and the comparison are lent.
+fn pictures(random: &mut Random, chip: Chip) -> Vec<Group> {
+    let mut groups = Vec::new();
+    if random.chance(20) {
+        groups.push(files("font", vec![font(random)]));
+    }
+    if random.chance(20) {
+        let any = random.below(201);
+        let other = other_size(chip) as u64;
+        let size = random.pick(&[chip.frame_size() as u64, other, other, 0, 79, 81, 159, 161, 1, 200, any]);
+        groups.push(text(&format!("frame {size}")));
+    }
+    if random.chance(20) {
+        let (one, other) = frames(random, chip);
+        groups.push(files("frames", vec![one, other]));
+    }
+    groups
+}
+
+/// The size of the other chip's frames.
+fn other_size(chip: Chip) -> usize {
+    if chip == Chip::ONE_LINE { Chip::TWO_LINES.frame_size() } else { Chip::ONE_LINE.frame_size() }
+}
+
+pub fn some_times(random: &mut Random) -> Times {
     let mut time = || match random.below(6) {
         0 => 0,
         1 => 65_535,
@@ -90,154 +125,37 @@ fn some_times(random: &mut Random) -> Times {
     Times { reset: time(), long: time(), short: time() }
 }
 
-fn panel_bytes(random: &mut Random, turn: u64) -> Vec<u8> {
-    let mut panel = sound_panel(random);
-    match turn % 6 {
-        0 | 3 => {
-            spoil(random, &mut panel, turn / 3);
-            if random.chance(15) {
-                let another = random.below(11);
-                spoil(random, &mut panel, another);
-            }
-            panel_file::write(&panel)
-        }
-        5 => no_panel(random, &panel, turn / 6),
-        _ => panel_file::write(&panel),
-    }
-}
-
-fn sound_panel(random: &mut Random) -> Panel {
-    let width = random.pick(&[Width::Eight, Width::Four, Width::Four]);
-    let size = random.below(40);
-    let last = match random.below(6) {
-        0 => TIME_LIMIT - 1,
-        1 => TIME_LIMIT - 1 - random.below(70_000),
-        2 => 0,
-        _ => random.below(TIME_LIMIT >> size),
-    };
-    let busy_end = match random.below(6) {
-        0 => BUSY_END_LIMIT - 1,
-        1 => random.below(last + 1),
-        2 => last,
-        _ => last + random.below(65_536),
-    };
-    Panel {
-        sheet: sound_sheet(random, width),
-        times: some_times(random),
-        busy_end,
-        last,
-        half: if width == Width::Four { sound_half(random) } else { None },
-    }
-}
-
-fn sound_sheet(random: &mut Random, width: Width) -> Sheet {
-    let codes = [0x00, 0x03, 0x07, 0x0F, 0x10, 0x20, 0x41, 0xFF];
-    Sheet {
-        display: std::array::from_fn(|_| if random.flag() { random.byte() } else { random.pick(&codes) }),
-        pattern: std::array::from_fn(|_| random.byte() & 31),
-        counter: if random.flag() {
-            Counter::Display(DisplayAddress(some_place(random, 15)))
-        } else {
-            Counter::Pattern(PatternAddress(some_place(random, 31)))
-        },
-        shift: random.byte() & 15,
-        i_d: random.flag(),
-        s: random.flag(),
-        d: random.chance(80),
-        c: random.flag(),
-        b: random.flag(),
-        width,
-        function: random.byte() & 15,
-    }
-}
-
-/// An address up to `most`, the two ends often.
-fn some_place(random: &mut Random, most: u8) -> u8 {
-    let any = random.byte() & most;
-    random.pick(&[0, most, any, any])
-}
-
-fn sound_half(random: &mut Random) -> Option<Half> {
-    let (rs, rw) = (random.flag(), random.flag());
-    match random.below(4) {
-        0 => None,
-        1 if rs || !rw => Some(Half { rs, rw, nibble: None }),
-        _ => Some(Half { rs, rw, nibble: Some(random.byte() & 15) }),
-    }
-}
-
-/// Makes a panel unsound in one of the ways that the rules name.
-fn spoil(random: &mut Random, panel: &mut Panel, way: u64) {
-    let sheet = &mut panel.sheet;
-    let (rs, rw) = (random.flag(), random.flag());
-    match way % 11 {
-        0 => sheet.counter = Counter::Display(DisplayAddress(random.pick(&[16, 31, 255]))),
-        1 => sheet.counter = Counter::Pattern(PatternAddress(random.pick(&[32, 255]))),
-        2 => sheet.shift = random.pick(&[16, 255]),
-        3 => sheet.function = random.pick(&[16, 255]),
-        4 => sheet.pattern[random.below(32) as usize] = random.pick(&[32, 255]),
-        5 => {
-            sheet.width = Width::Four;
-            panel.half = Some(Half { rs, rw, nibble: Some(random.pick(&[16, 255])) });
-        }
-        6 => {
-            sheet.width = Width::Eight;
-            panel.half = Some(Half { rs, rw, nibble: Some(random.byte() & 15) });
-        }
-        7 => {
-            sheet.width = Width::Eight;
-            panel.half = Some(Half { rs: true, rw, nibble: None });
-        }
-        8 => {
-            sheet.width = Width::Four;
-            panel.half = Some(Half { rs: false, rw: true, nibble: None });
-        }
-        9 => panel.last = random.pick(&[TIME_LIMIT, u64::MAX]),
-        _ => panel.busy_end = random.pick(&[BUSY_END_LIMIT, u64::MAX]),
-    }
-}
-
-/// Bytes that the panel's types cannot hold.
-fn no_panel(random: &mut Random, panel: &Panel, way: u64) -> Vec<u8> {
-    let mut bytes = panel_file::write(panel);
-    let flag_places = [48, 51, 52, 53, 54, 55, 81, 82];
-    match way % 17 {
-        0 => bytes.clear(),
-        1 => bytes.truncate(83),
-        2 => bytes.push(0),
-        sort @ 3..=10 => bytes[flag_places[sort as usize - 3]] = random.pick(&[2, 255]),
-        11 => bytes[56] = random.pick(&[0, 5, 16, 255]),
-        12 => bytes[80] = random.pick(&[3, 255]),
-        13 => bytes[80..].copy_from_slice(&[0, 1, 0, 0]),
-        14 => bytes[80..].copy_from_slice(&[0, 0, 1, 0]),
-        15 => bytes[80..].copy_from_slice(&[0, 0, 0, random.pick(&[1, 255])]),
-        _ => bytes[80..].copy_from_slice(&[1, 1, 0, random.pick(&[1, 255])]),
-    }
-    bytes
-}
-
 fn font(random: &mut Random) -> Vec<u8> {
     let size = random.pick(&[1_920, 1_920, 1_920, 1_920, 0, 80, 1_919, 1_921, 3_840]);
     random.bytes(size)
 }
 
-fn frames(random: &mut Random) -> (Vec<u8>, Vec<u8>) {
-    let one = random.bytes(80);
+fn frames(random: &mut Random, chip: Chip) -> (Vec<u8>, Vec<u8>) {
+    let (size, dots) = (chip.frame_size(), 8 * chip.frame_size() as u64);
+    let one = random.bytes(size);
     let mut other = one.clone();
-    let wrong_size = random.pick(&[0, 1, 79, 81, 200]);
-    match random.below(8) {
+    let other_size = other_size(chip);
+    let wrong_size = random.pick(&[0, 1, size - 1, size + 1, other_size, other_size, other_size, 200]);
+    match random.below(12) {
         0 => {}
-        1 => flip(&mut other, random.below(640)),
-        2 => flip(&mut other, random.pick(&[0, 79, 80, 560, 639, 639])),
-        3 => {
+        1 => flip(&mut other, random.below(dots)),
+        2..=4 => flip(&mut other, random.pick(&[0, 79, 80, 639, dots - 640, dots / 2, dots - 80, dots - 1, dots - 1])),
+        5 => {
             for _ in 0..2 + random.below(9) {
-                flip(&mut other, random.below(640));
+                flip(&mut other, random.below(dots));
             }
         }
-        4 => other = random.bytes(80),
-        5 => return (random.bytes(wrong_size), other),
-        6 => other.resize(wrong_size, 0),
-        _ => return (one[..wrong_size.min(79)].to_vec(), one[..wrong_size.min(79)].to_vec()),
+        6 => other = random.bytes(size),
+        7 => return (random.bytes(wrong_size), other),
+        8 => other.resize(wrong_size, 0),
+        9 => return (vec![7; wrong_size], vec![7; wrong_size]),
+        10 => return (random.bytes(other_size), random.bytes(other_size)),
+        // A dot of the last line, and any that come after it.
+        _ => {
+            let first = dots - 1 - random.below(640);
+            flip(&mut other, first);
+            flip(&mut other, first + random.below(dots - first));
+        }
     }
     (one, other)
 }
@@ -247,19 +165,27 @@ fn flip(frame: &mut [u8], dot: u64) {
     frame[(dot / 8) as usize] ^= 0x80 >> (dot % 8);
 }
 
+/// Words for its fresh panel that every program refuses.
+pub const REFUSED: [&str; 22] = [
+    "chip", "chip ", "chip 6633", "chip 31", "chip 35", "chip 06635", "chip 66350", "chip NJU6635", "chip 6631A",
+    "chip times 1 2 3", "chip 6635 chip 6635", "chip 6631 times 1 2 3 chip 6635", "6635", "chip 6635 6631",
+    "times", "times 1 2", "times 1 2 65536", "times 65536 2 3", "times 1 two 3", "times 1 -2 3",
+    "times 1 2 3 times 1 2 3", "times 1 99999999999999999999 3",
+];
+
 fn refused_words(random: &mut Random, turn: u64) -> Group {
     let wordings = [
-        "bogus", "font", "times", "times 1 2", "times 1 2 65536", "times 1 two 3", "times 1 -2 3",
-        "panel", "frame", "frame 201", "frame x", "frame 80 frame 80", "times 1 2 3 times 1 2 3",
-        "records records", "frame 99999999999999999999",
+        "bogus", "font", "panel", "frame", "frame 201", "frame x", "frame 80 frame 80", "records records",
+        "frame 99999999999999999999",
     ];
-    let kinds = wordings.len() as u64 + 5;
+    let kinds = wordings.len() as u64 + 6;
     match turn % kinds {
         0 => files("frames", vec![random.bytes(80)]),
         1 => files("frames", vec![random.bytes(80), random.bytes(201)]),
         2 => files("frames", vec![random.bytes(201), random.bytes(80)]),
         3 => vec![Word::Text("font".to_string()), Word::Missing],
         4 => vec![Word::Text("panel".to_string()), Word::Missing],
-        other => text(wordings[(other - 5) as usize]),
+        5 => text(random.pick(&REFUSED)),
+        other => text(wordings[(other - 6) as usize]),
     }
 }

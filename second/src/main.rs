@@ -1,19 +1,21 @@
 //! The second program: a model of the mirror, written from the rules alone,
 //! and the comparison of the model with the built programs.
 //!
-//! The model: `log`, `chip`, `panel`, `picture`, `prints`, `demands`, with
-//! `panel_file` and `arguments` for what a run is lent, and `cases`. The
+//! The model: `log`, `chips`, `chip`, `panel`, `picture`, `prints`, `demands`,
+//! with `panel_file` and `arguments` for what a run is lent, and `cases`. The
 //! report: `report`, and `again` for what was written again. The glass: `wall`.
 //! The trials: `random`, `lend`, `sender`, `generator`, and `glass` for `wall`.
 //! The comparison: `questions`, `expected`, `start`, `compare`, `shrink`,
-//! `findings`, and the `commands` that run it; `reach` lists what the questions
-//! must reach, and `observe`, `observe_lent`, `observe_report` and
-//! `observe_wall` watch the model reach it.
+//! `findings`, and the `commands` that run it; `classes` lists what the questions
+//! must reach of each chip, `reach` counts it, and `observe` with its companions
+//! watches the model reach it.
 
 mod again;
 mod arguments;
 mod cases;
 mod chip;
+mod chips;
+mod classes;
 mod commands;
 mod compare;
 mod demands;
@@ -25,8 +27,11 @@ mod lend;
 mod log;
 mod observe;
 mod observe_lent;
+mod observe_lines;
 mod observe_report;
+mod observe_unknown;
 mod observe_wall;
+mod observe_words;
 mod panel;
 mod panel_file;
 mod picture;
@@ -47,13 +52,14 @@ use std::process::ExitCode;
 const HELP: &str = "\
 second: a model of the mirror, and its comparison with the built programs
 
-  second glazomir < LOG          print what the mirror program should print
+  second glazomir [WORDS] < LOG  print what the mirror program should print
   second trace [WORDS] < LOG     print what trace should print
-  second report < LOG            print what report should print
+  second report [WORDS] < LOG    print what report should print
   second wall [WORDS] < LOG      print what wall should print; `font FILE` must
                                  be among the words, and without `ascii` or
                                  `pbm` there is no drawing
-  second cases                   check cases A to M and the pages' examples
+  second cases                   check the cases of both chips and the pages'
+                                 examples
   second reach [--logs N] [--seed S]
                                  print what the questions reach
   second compare --glazomir CMD --trace CMD [--report CMD] [--wall CMD]
@@ -65,13 +71,14 @@ second: a model of the mirror, and its comparison with the built programs
                                  write generated logs and what they are lent
   second --help                  print this
 
-CMD is a command line, split at spaces, that starts a program. N is 3000 logs
-and S is 1 unless given; soak takes its seed from the clock. Every log goes
-through trace, every eighth through glazomir, every eleventh through the report
-with nights of a box in haste beside them; the wall has logs of its own, one to
-five. A difference is shrunk to a short log and printed, and so is a class that
-no log reached (which a small N brings about); the status is then 1. The last
-line is `N passed, N failed`.
+WORDS are the program's own, `chip 6635` and `times R L S` among them. CMD is a
+command line, split at spaces, that starts a program. N is 3000 logs and S is 1
+unless given; soak takes its seed from the clock. About half of the logs are for
+two lines. Every log goes through trace, every eighth through glazomir, every
+eleventh through the report with nights of a box in haste beside them; the wall
+has logs of its own, one to five. A difference is shrunk to a short log and
+printed, and so is a class that no log of a chip reached (which a small N brings
+about); the status is then 1. The last line is `N passed, N failed`.
 ";
 
 fn main() -> ExitCode {
@@ -117,13 +124,9 @@ fn nothing(_: &[u8]) -> String {
     String::new()
 }
 
-fn no_words(words: &[String]) -> Result<(), String> {
-    if words.is_empty() { Ok(()) } else { Err("it takes --help alone, or nothing".to_string()) }
-}
-
 fn glazomir(words: &[String]) -> Result<(), String> {
-    no_words(words)?;
-    print_all(prints::glazomir(&read_log(nothing)?).as_bytes())
+    let start = arguments::start(words)?;
+    print_all(prints::glazomir(&start, &read_log(nothing)?).as_bytes())
 }
 
 fn trace(words: &[String]) -> Result<(), String> {
@@ -133,8 +136,9 @@ fn trace(words: &[String]) -> Result<(), String> {
 }
 
 fn report(words: &[String]) -> Result<(), String> {
-    no_words(words)?;
-    print_all(page::print(&read_log(page::print_broken_off)?).as_bytes())
+    let start = arguments::start(words)?;
+    let log = read_log(|read| page::print_broken_off(&start, read))?;
+    print_all(page::print(&start, &log).as_bytes())
 }
 
 fn wall(words: &[String]) -> Result<(), String> {

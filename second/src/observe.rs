@@ -5,6 +5,7 @@ use crate::arguments::Lent;
 use crate::chip::{Counter, Sheet, Width};
 use crate::log::{self, Message, Transfer, TIME_LIMIT};
 use crate::observe_lent;
+use crate::observe_lines;
 use crate::panel::number::*;
 use crate::panel::{is_status, Answer, Half, Panel};
 use crate::questions::Question;
@@ -35,8 +36,9 @@ pub fn question(reach: &mut Reach, question: &Question, lent: Result<&Lent, &str
     let log = &question.trial.log;
     let lent = match lent {
         Ok(lent) => lent,
-        Err(reason) => return reach.note(&format!("refused: {reason}")),
+        Err(reason) => return reach.note_by_itself(&format!("refused: {reason}")),
     };
+    reach.turn_to(lent.panel.sheet.chip);
     observe_lent::lent(reach, &question.trial, lent);
     if question.trial.gives("records") {
         observe_lent::by_records(reach, question, lent);
@@ -133,6 +135,7 @@ fn reset(reach: &mut Reach, before: &Panel, time: u64) {
     reach.note(state);
     reach.note_if(before.sheet.width == Width::Four, "reset at width 4");
     reach.note_if(before.sheet.pattern != [0; 32], "reset of a written pattern memory");
+    observe_lines::reset(reach, &before.sheet);
     match before.half {
         None => {}
         Some(Half { nibble: None, .. }) => reach.note("reset with an ignored half"),
@@ -188,6 +191,9 @@ fn note_transfer(reach: &mut Reach, sheet: &Sheet, transfer: Transfer, free: boo
     let width = if wide { 8 } else { 4 };
     let state = if free { "free" } else { "busy" };
     reach.note(&format!("{name}, width {width}, {state}"));
+    if name == "status read" {
+        observe_lines::status(reach, sheet, width);
+    }
     if !transfer.rs && !transfer.rw {
         reach.note_code(wide, free, transfer.data);
     }
@@ -282,6 +288,7 @@ fn steps(reach: &mut Reach, step: &Step, transfer: Transfer) {
     let name = transfer_name(old, transfer);
     wraps(reach, old, new, name);
     shifts(reach, old, new, name);
+    observe_lines::step(reach, old, name, transfer.data);
     let in_pattern = matches!(old.counter, Counter::Pattern(_));
     let (code, data) = (transfer.data, transfer.data);
     match name {
@@ -320,7 +327,8 @@ fn wraps(reach: &mut Reach, old: &Sheet, new: &Sheet, name: &str) {
         Counter::Pattern(_) => "pattern",
     };
     let (from, to) = (old.counter.number(), new.counter.number());
-    if from.abs_diff(to) != 1 {
+    let from_line_to_line = memory == "display" && from / 16 != to / 16;
+    if from.abs_diff(to) != 1 || from_line_to_line {
         reach.note(&format!("{memory} {how} {from} to {to}"));
     }
 }

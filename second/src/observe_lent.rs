@@ -5,8 +5,11 @@ use crate::arguments::Lent;
 use crate::chip::{Counter, DisplayAddress, PatternAddress};
 use crate::generator::Trial;
 use crate::log::{self, TIME_LIMIT};
+use crate::observe_lines;
+use crate::observe_unknown;
+use crate::observe_words;
 use crate::panel::{self, Panel, BUSY_END_LIMIT};
-use crate::picture::{self, Comparison, FONT_SIZE, FRAME_SIZE};
+use crate::picture::{self, Comparison, FONT_SIZE};
 use crate::questions::Question;
 use crate::reach::Reach;
 use crate::start::{Feed, BLOCK};
@@ -19,6 +22,12 @@ pub fn lent(reach: &mut Reach, trial: &Trial, lent: &Lent) {
     if trial.gives("panel") {
         reach.note_if(trial.gives("times"), "panel and times");
         panel_at_its_limits(reach, &lent.panel);
+        observe_lines::handed_in(reach, trial, &lent.panel);
+    } else {
+        observe_words::given(reach, "", trial);
+    }
+    if !lent.panel.sheet.chip.is_known() {
+        return observe_unknown::lent(reach, trial, lent, &faults);
     }
     for fault in &faults {
         reach.note(&format!("unsound: {fault}"));
@@ -56,12 +65,17 @@ pub fn by_records(reach: &mut Reach, question: &Question, lent: &Lent) {
     }
 }
 
+/// Whether the frame lent is as large as the chip's frame.
+fn has_its_size(lent: &Lent) -> bool {
+    lent.frame_size == lent.panel.sheet.chip.frame_size()
+}
+
 fn refusals(reach: &mut Reach, lent: &Lent, log: &[u8]) {
     for class in ["answer 10", "10 for a run", "10 for a painting"] {
         reach.note(class);
     }
     reach.note_if(lent.font.len() != FONT_SIZE, "10 before 9 for the font");
-    reach.note_if(lent.frame_size != FRAME_SIZE, "10 before 9 for the frame");
+    reach.note_if(!has_its_size(lent), "10 before 9 for the frame");
     let (records, cut) = log::records(log);
     reach.note_if(cut, "10 with a cut log");
     reach.note_if(cut && records.is_empty(), "10 with a log cut before any record");
@@ -72,9 +86,11 @@ fn refusals(reach: &mut Reach, lent: &Lent, log: &[u8]) {
 /// Notes the picture of the panel that a sound run ends with.
 pub fn painting(reach: &mut Reach, lent: &Lent, panel: &Panel) {
     let sheet = &panel.sheet;
-    reach.note_if(lent.frame_size != FRAME_SIZE, "9 for the frame");
+    let (size, fits) = (lent.frame_size, has_its_size(lent));
+    reach.note_if(!fits, "9 for the frame");
+    reach.note_if(!fits && matches!(size, 80 | 160), "9 for a frame of the other chip's size");
     reach.note_if(lent.font.len() != FONT_SIZE, "9 for the font");
-    if lent.frame_size != FRAME_SIZE || lent.font.len() != FONT_SIZE {
+    if !fits || lent.font.len() != FONT_SIZE {
         return reach.note("answer 9");
     }
     if !sheet.d {
@@ -84,11 +100,17 @@ pub fn painting(reach: &mut Reach, lent: &Lent, panel: &Panel) {
     reach.note_if(lent.font != picture::trial_font(), "lent font painted");
     reach.note_if(sheet.c && sheet.shift != 0, "cursor at a shift");
     reach.note_if(sheet.b && sheet.shift != 0, "blink at a shift");
-    if let (true, Counter::Pattern(PatternAddress(at))) = (sheet.c, sheet.counter) {
-        reach.note("cursor in pattern memory");
-        reach.note_if(at > 15, "cursor above 15 in pattern memory");
-    }
-    for code in sheet.display {
+    codes(reach, &sheet.display[..sheet.chip.places()]);
+    observe_lines::cursor(reach, sheet);
+    let [mut light, mut dark] = [false, true].map(|_| vec![0; size]);
+    picture::paint(panel, &lent.font, false, &mut light);
+    picture::paint(panel, &lent.font, true, &mut dark);
+    reach.note(if light == dark { "comparison: painted frames same" } else { "dark and light differ" });
+    observe_lines::painted(reach, sheet, &light, &dark);
+}
+
+fn codes(reach: &mut Reach, codes: &[u8]) {
+    for code in codes {
         match code {
             0x00..=0x03 => reach.note("pattern code 00h to 03h"),
             0x04..=0x0F => reach.note("pattern code 04h to 0Fh"),
@@ -97,10 +119,6 @@ pub fn painting(reach: &mut Reach, lent: &Lent, panel: &Panel) {
             _ => {}
         }
     }
-    let [mut light, mut dark] = [[0; FRAME_SIZE]; 2];
-    picture::paint(panel, &lent.font, false, &mut light);
-    picture::paint(panel, &lent.font, true, &mut dark);
-    reach.note(if light == dark { "comparison: painted frames same" } else { "dark and light differ" });
 }
 
 fn sizes_and_times(reach: &mut Reach, lent: &Lent) {
@@ -110,13 +128,8 @@ fn sizes_and_times(reach: &mut Reach, lent: &Lent) {
         1_921 => reach.note("font of 1921"),
         _ => {}
     }
-    match lent.frame_size {
-        0 => reach.note("frame of 0"),
-        79 => reach.note("frame of 79"),
-        81 => reach.note("frame of 81"),
-        200 => reach.note("frame of 200"),
-        _ => {}
-    }
+    let size = lent.frame_size;
+    reach.note_if(matches!(size, 0 | 79..=81 | 159..=161 | 200), &format!("frame of {size}"));
     let times = [lent.panel.times.reset, lent.panel.times.long, lent.panel.times.short];
     reach.note_if(times.contains(&0), "time of 0");
     reach.note_if(times.contains(&65_535), "time of 65535");
@@ -142,8 +155,10 @@ fn panel_at_its_limits(reach: &mut Reach, panel: &Panel) {
 
 fn frames(reach: &mut Reach, lent: &Lent) {
     let Some((one, other)) = &lent.frames else { return };
+    let chip = lent.panel.sheet.chip;
+    let size = chip.frame_size();
     let differing: u32 = one.iter().zip(other).map(|(a, b)| (a ^ b).count_ones()).sum();
-    match (one.len() == FRAME_SIZE, other.len() == FRAME_SIZE) {
+    match (one.len() == size, other.len() == size) {
         (false, false) => reach.note("frames: both of wrong size"),
         (false, true) => reach.note("frames: first of wrong size"),
         (true, false) => reach.note("frames: second of wrong size"),
@@ -151,10 +166,13 @@ fn frames(reach: &mut Reach, lent: &Lent) {
         (true, true) if differing == 1 => reach.note("frames: one dot"),
         (true, true) => reach.note("frames: several dots"),
     }
-    match picture::compare(one, other) {
+    let last = chip.rows() - 1;
+    let comparison = picture::compare(chip, one, other);
+    match comparison {
         Comparison::Refused(_) => reach.note("9 for frames"),
         Comparison::At { row: 0, column: 0 } => reach.note("frames: first dot of all"),
-        Comparison::At { row: 7, column: 79 } => reach.note("frames: last dot of all"),
+        Comparison::At { row, column: 79 } if row == last => reach.note("frames: last dot of all"),
         _ => {}
     }
+    observe_lines::frames(reach, chip, (one, other), comparison);
 }

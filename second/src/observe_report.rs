@@ -1,14 +1,18 @@
 //! Watches the report of a log and notes which of its classes it meets.
 
 use crate::again::{self, DataWrite, Run};
+use crate::classes::REPORT;
 use crate::log::{self, Message, Transfer, TIME_LIMIT};
 use crate::panel::number::*;
+use crate::panel::Panel;
 use crate::reach::Reach;
 use crate::report::{self, Byte, Line, Report};
 
-/// Notes what the report of one log reaches.
-pub fn log(reach: &mut Reach, log: &[u8]) {
-    let report = report::of(log);
+/// Notes what the report of one log reaches; `start` is the panel that the log
+/// is sent to.
+pub fn log(reach: &mut Reach, start: &Panel, log: &[u8]) {
+    reach.turn_to(start.sheet.chip);
+    let report = report::of(start, log);
     let (records, _) = log::records(log);
     for line in &report.lines {
         let dropped = report.dropped.contains(&line.record);
@@ -33,7 +37,7 @@ pub fn log(reach: &mut Reach, log: &[u8]) {
 }
 
 fn note(reach: &mut Reach, class: &str) {
-    reach.note(&format!("report: {class}"));
+    reach.note(&format!("{REPORT}{class}"));
 }
 
 fn note_if(reach: &mut Reach, reached: bool, class: &str) {

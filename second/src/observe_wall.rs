@@ -2,11 +2,15 @@
 //! meets.
 
 use crate::chip::{Counter, PatternAddress, Sheet};
+use crate::chips::LINE;
+use crate::classes::WALL;
 use crate::glass::{self, Moment};
 use crate::log::{self, Message, TIME_LIMIT};
-use crate::picture;
+use crate::observe_words;
+use crate::panel::Panel;
+use crate::picture::{self, Place};
 use crate::questions::Question;
-use crate::reach::{Reach, WALL};
+use crate::reach::Reach;
 use crate::start::{Feed, BLOCK};
 use crate::wall::{self, Asked, Form, Shown};
 
@@ -15,15 +19,17 @@ pub fn question(reach: &mut Reach, question: &Question, asked: Result<Asked, &st
     let log = &question.trial.log;
     let asked = match asked {
         Ok(asked) => asked,
-        Err(reason) => return note(reach, &format!("refused: {reason}")),
+        Err(reason) => return reach.note_by_itself(&format!("{WALL}refused: {reason}")),
     };
-    let shown = wall::shown(log, asked.at);
+    reach.turn_to(asked.start.sheet.chip);
+    observe_words::given(reach, WALL, &question.trial);
+    let shown = wall::shown(&asked.start, log, asked.at);
     screen(reach, &asked, &shown.panel.sheet);
     ends(reach, &asked, &shown, log);
     if let Some(time) = asked.at {
-        let moments = glass::moments(log);
+        let moments = glass::moments(&asked.start, log);
         around(reach, &moments, time);
-        passed_over(reach, &moments, &shown, log, time);
+        passed_over(reach, &asked.start, &moments, &shown, log, time);
         blocks(reach, &moments, &shown, question.feed);
     }
     let in_pieces = matches!(question.feed, Feed::Pieces(_));
@@ -48,6 +54,8 @@ fn screen(reach: &mut Reach, asked: &Asked, sheet: &Sheet) {
     let has_cursor = sheet.d && (sheet.c || sheet.b);
     if asked.form == Form::Bitmap {
         note(reach, &format!("bitmap, {blink}"));
+        let below = has_cursor && picture::cursor(sheet).line == 1;
+        note_if(reach, below, "bitmap of the cursor on the second line");
         note_if(reach, is_shifted && has_cursor, "bitmap at a shift");
         return note_if(reach, is_shifted && sheet.d && sheet.b && asked.dark, "bitmap of the blink at a shift");
     }
@@ -72,6 +80,9 @@ fn screen(reach: &mut Reach, asked: &Asked, sheet: &Sheet) {
 
 fn cursor(reach: &mut Reach, sheet: &Sheet) {
     note(reach, &format!("the cursor at shift {}", sheet.shift));
+    if sheet.chip.lines() == 2 {
+        cursor_of_two_lines(reach, sheet);
+    }
     if let Counter::Pattern(PatternAddress(at)) = sheet.counter {
         note(reach, "cursor in pattern memory");
         note_if(reach, sheet.shift != 0, "cursor in pattern memory, at a shift");
@@ -79,14 +90,27 @@ fn cursor(reach: &mut Reach, sheet: &Sheet) {
     }
 }
 
+fn cursor_of_two_lines(reach: &mut Reach, sheet: &Sheet) {
+    let line = picture::cursor(sheet).line;
+    let which = ["first", "second"][line];
+    note(reach, &format!("the cursor on the {which} line"));
+    note_if(reach, sheet.shift != 0, &format!("the cursor on the {which} line, at a shift"));
+    let in_pattern = matches!(sheet.counter, Counter::Pattern(_));
+    note_if(reach, in_pattern && line == 1, "cursor in pattern memory, on the second line");
+}
+
 fn codes(reach: &mut Reach, sheet: &Sheet) {
-    for position in 0..16 {
-        let code = picture::code_at(sheet, position);
-        reach.note_shown(code);
-        let first = 8 * usize::from(code & 3);
-        let is_blank = sheet.pattern[first..first + 8] == [0; 8];
-        note_if(reach, code < 0x10 && !is_blank, "a pattern that is not blank");
+    for line in 0..sheet.chip.lines() {
+        for position in 0..LINE {
+            let code = picture::code_at(sheet, Place { line, position });
+            reach.note_shown(code);
+            let first = 8 * usize::from(code & 3);
+            let is_blank = sheet.pattern[first..first + 8] == [0; 8];
+            note_if(reach, code < 0x10 && !is_blank, "a pattern that is not blank");
+        }
     }
+    let (above, below) = sheet.display.split_at(LINE);
+    note_if(reach, sheet.chip.lines() == 2 && above != below, "the lines show other codes");
 }
 
 fn ends(reach: &mut Reach, asked: &Asked, shown: &Shown, log: &[u8]) {
@@ -103,8 +127,10 @@ fn ends(reach: &mut Reach, asked: &Asked, shown: &Shown, log: &[u8]) {
     note_if(reach, log.is_empty(), "an empty log, and a time");
     note_if(reach, cut && after_all, "a cut log, and a time after the cut");
     note_if(reach, cut && !after_all, "a cut log, and a time before the cut");
-    let at_end = wall::shown(log, None).panel;
-    note_if(reach, at_end.sheet != shown.panel.sheet, "another panel at the end of the log");
+    let at_end = wall::shown(&asked.start, log, None).panel.sheet;
+    note_if(reach, at_end != shown.panel.sheet, "another panel at the end of the log");
+    let other_line = at_end.display[LINE..] != shown.panel.sheet.display[LINE..];
+    note_if(reach, other_line, "another second line at the end of the log");
 }
 
 /// Where the time lies next to those of the records.
@@ -123,7 +149,7 @@ fn around(reach: &mut Reach, moments: &[Moment], time: u64) {
 }
 
 /// Records that have no say, and the one that has.
-fn passed_over(reach: &mut Reach, moments: &[Moment], shown: &Shown, log: &[u8], time: u64) {
+fn passed_over(reach: &mut Reach, from: &Panel, moments: &[Moment], shown: &Shown, log: &[u8], time: u64) {
     let records = log::records(log).0;
     let is_bad = |place: usize| log::message(records[place]).is_none();
     let end = shown.before.unwrap_or(records.len());
@@ -135,7 +161,7 @@ fn passed_over(reach: &mut Reach, moments: &[Moment], shown: &Shown, log: &[u8],
     let later = (0..end).filter(silent).find(|&place| moments[place].time > Some(time));
     if let Some(place) = later {
         let start: usize = moments[place].offset;
-        let changed = wall::shown(&log[..start], None).panel.sheet != shown.panel.sheet;
+        let changed = wall::shown(from, &log[..start], None).panel.sheet != shown.panel.sheet;
         note_if(reach, changed, "a bad record of a later time first");
         note_if(reach, changed && shown.before.is_none(), "records that tell a later time, all of them bad");
     }

@@ -2,6 +2,7 @@
 //! record with a number of the answer table and a bus byte.
 
 use crate::chip::{Counter, DisplayAddress, Entry, PatternAddress, Sheet, Width};
+use crate::chips::Chip;
 use crate::log::{self, Front, Message, Transfer, TIME_LIMIT};
 
 /// A busy end lies below this: the last time there is, and the longest wait.
@@ -81,12 +82,19 @@ pub struct Run {
     pub refused: bool,
 }
 
-/// All ways in which this panel is not sound, in the rules' order.
+/// All ways in which this panel is not sound: the chip, then the rules' order.
 pub fn faults(panel: &Panel) -> Vec<&'static str> {
     let sheet = &panel.sheet;
+    let places = sheet.chip.places();
     let mut found = Vec::new();
+    if !sheet.chip.is_known() {
+        found.push("chip");
+    }
+    if sheet.display[places..].iter().any(|&byte| byte != 0x20) {
+        found.push("byte past the chip's own");
+    }
     match sheet.counter {
-        Counter::Display(DisplayAddress(16..)) => found.push("display address"),
+        Counter::Display(DisplayAddress(at)) if usize::from(at) >= places => found.push("display address"),
         Counter::Pattern(PatternAddress(32..)) => found.push("pattern address"),
         _ => {}
     }
@@ -126,8 +134,8 @@ fn half_faults(half: Option<Half>, width: Width) -> Vec<&'static str> {
 }
 
 impl Panel {
-    pub fn fresh(times: Times) -> Panel {
-        Panel { sheet: Sheet::fresh(), times, busy_end: 0, last: 0, half: None }
+    pub fn fresh(chip: Chip, times: Times) -> Panel {
+        Panel { sheet: Sheet::fresh(chip), times, busy_end: 0, last: 0, half: None }
     }
 
     pub fn is_sound(&self) -> bool {
@@ -278,3 +286,5 @@ pub fn run(panel: &mut Panel, log: &[u8]) -> Run {
 
 #[cfg(test)]
 mod tests;
+#[cfg(test)]
+mod two_lines;

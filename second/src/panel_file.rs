@@ -1,9 +1,10 @@
-//! A panel as a file of 84 bytes, so that a run can start from any panel.
+//! A panel as a file of 101 bytes, so that a run can start from any panel.
 
 use crate::chip::{Counter, DisplayAddress, PatternAddress, Sheet, Width};
+use crate::chips::Chip;
 use crate::panel::{Half, Panel, Times};
 
-pub const SIZE: usize = 84;
+pub const SIZE: usize = 101;
 
 /// Reads a panel, sound or not; the error says why the bytes are no panel.
 pub fn read(bytes: &[u8]) -> Result<Panel, &'static str> {
@@ -15,35 +16,36 @@ pub fn read(bytes: &[u8]) -> Result<Panel, &'static str> {
         1 => Ok(true),
         _ => Err(what),
     };
-    let in_pattern = bit(48, "memory of the counter")?;
+    let in_pattern = bit(65, "memory of the counter")?;
     let sheet = Sheet {
-        display: bytes[..16].try_into().expect("16 bytes"),
-        pattern: bytes[16..48].try_into().expect("32 bytes"),
+        chip: Chip(bytes[0]),
+        display: bytes[1..33].try_into().expect("32 bytes"),
+        pattern: bytes[33..65].try_into().expect("32 bytes"),
         counter: if in_pattern {
-            Counter::Pattern(PatternAddress(bytes[49]))
+            Counter::Pattern(PatternAddress(bytes[66]))
         } else {
-            Counter::Display(DisplayAddress(bytes[49]))
+            Counter::Display(DisplayAddress(bytes[66]))
         },
-        shift: bytes[50],
-        i_d: bit(51, "I/D")?,
-        s: bit(52, "S")?,
-        d: bit(53, "D")?,
-        c: bit(54, "C")?,
-        b: bit(55, "B")?,
-        width: match bytes[56] {
+        shift: bytes[67],
+        i_d: bit(68, "I/D")?,
+        s: bit(69, "S")?,
+        d: bit(70, "D")?,
+        c: bit(71, "C")?,
+        b: bit(72, "B")?,
+        width: match bytes[73] {
             8 => Width::Eight,
             4 => Width::Four,
             _ => return Err("width"),
         },
-        function: bytes[57],
+        function: bytes[74],
     };
-    let half = read_half(bytes[80], bit(81, "RS of the half")?, bit(82, "R/W of the half")?, bytes[83])?;
-    Ok(Panel { sheet, times: read_times(bytes), busy_end: long(bytes, 64), last: long(bytes, 72), half })
+    let half = read_half(bytes[97], bit(98, "RS of the half")?, bit(99, "R/W of the half")?, bytes[100])?;
+    Ok(Panel { sheet, times: read_times(bytes), busy_end: long(bytes, 81), last: long(bytes, 89), half })
 }
 
 fn read_times(bytes: &[u8]) -> Times {
     let short = |at: usize| u16::from_le_bytes([bytes[at], bytes[at + 1]]);
-    Times { reset: short(58), long: short(60), short: short(62) }
+    Times { reset: short(75), long: short(77), short: short(79) }
 }
 
 fn long(bytes: &[u8], at: usize) -> u64 {
@@ -66,6 +68,7 @@ fn read_half(sort: u8, rs: bool, rw: bool, nibble: u8) -> Result<Option<Half>, &
 pub fn write(panel: &Panel) -> Vec<u8> {
     let sheet = &panel.sheet;
     let mut bytes = Vec::with_capacity(SIZE);
+    bytes.push(sheet.chip.0);
     bytes.extend(sheet.display);
     bytes.extend(sheet.pattern);
     bytes.push(u8::from(matches!(sheet.counter, Counter::Pattern(_))));
@@ -93,10 +96,55 @@ mod tests {
 
     #[test]
     fn what_is_written_is_read() {
-        let mut panel = Panel::fresh(Times::USUAL);
-        panel.half = Some(Half { rs: true, rw: false, nibble: Some(255) });
-        panel.sheet.counter = Counter::Pattern(PatternAddress(99));
-        (panel.busy_end, panel.last) = (u64::MAX, 1 << 50);
-        assert_eq!(read(&write(&panel)), Ok(panel));
+        for chip in [Chip::ONE_LINE, Chip::TWO_LINES, Chip(0), Chip(255)] {
+            let mut panel = Panel::fresh(chip, Times::USUAL);
+            panel.sheet.display = std::array::from_fn(|at| at as u8);
+            panel.half = Some(Half { rs: true, rw: false, nibble: Some(255) });
+            panel.sheet.counter = Counter::Pattern(PatternAddress(99));
+            (panel.busy_end, panel.last) = (u64::MAX, 1 << 50);
+            assert_eq!(read(&write(&panel)), Ok(panel));
+        }
+    }
+
+    /// Every byte another, where it may be: each is read from its own place.
+    #[test]
+    fn each_byte_has_its_place() {
+        let mut bytes: Vec<u8> = (0..101).collect();
+        bytes[65..=74].copy_from_slice(&[1, 66, 67, 0, 1, 0, 1, 0, 4, 74]);
+        bytes[97..].copy_from_slice(&[2, 1, 0, 100]);
+        let panel = read(&bytes).expect("a panel");
+        let sheet = &panel.sheet;
+        assert_eq!((sheet.chip, sheet.counter, sheet.shift), (Chip(0), Counter::Pattern(PatternAddress(66)), 67));
+        assert_eq!((sheet.display[0], sheet.display[15], sheet.display[16], sheet.display[31]), (1, 16, 17, 32));
+        assert_eq!((sheet.pattern[0], sheet.pattern[31]), (33, 64));
+        assert_eq!((sheet.i_d, sheet.s, sheet.d, sheet.c, sheet.b), (false, true, false, true, false));
+        assert_eq!((sheet.width, sheet.function), (Width::Four, 74));
+        let times = Times { reset: 75 + 256 * 76, long: 77 + 256 * 78, short: 79 + 256 * 80 };
+        assert_eq!(panel.times, times);
+        assert_eq!(panel.busy_end.to_le_bytes(), [81, 82, 83, 84, 85, 86, 87, 88]);
+        assert_eq!(panel.last.to_le_bytes(), [89, 90, 91, 92, 93, 94, 95, 96]);
+        assert_eq!(panel.half, Some(Half { rs: true, rw: false, nibble: Some(100) }));
+        assert_eq!(write(&panel), bytes);
+    }
+
+    #[test]
+    fn what_is_no_panel() {
+        let good = write(&Panel::fresh(Chip::TWO_LINES, Times::USUAL));
+        assert!(read(&good).is_ok());
+        for size in [0, 84, 100, 102] {
+            let mut bytes = good.clone();
+            bytes.resize(size, 0);
+            assert_eq!(read(&bytes), Err("size of the file"));
+        }
+        for place in [65, 68, 69, 70, 71, 72, 98, 99] {
+            let mut bytes = good.clone();
+            bytes[place] = 2;
+            assert!(read(&bytes).is_err(), "byte {place}");
+        }
+        for (place, byte) in [(73, 5), (97, 3), (98, 1), (99, 1), (100, 1)] {
+            let mut bytes = good.clone();
+            bytes[place] = byte;
+            assert!(read(&bytes).is_err(), "byte {place}");
+        }
     }
 }

@@ -1,12 +1,11 @@
 //! The picture: which dots are lit, and where two frames differ.
 
-use crate::chip::{Counter, DisplayAddress, PatternAddress, Sheet};
+use crate::chip::Sheet;
+use crate::chips::{Chip, LINE, LINE_ROWS};
 use crate::panel::number::{SIZE, UNSOUND};
 use crate::panel::Panel;
 
-pub const ROWS: usize = 8;
 pub const COLUMNS: usize = 80;
-pub const FRAME_SIZE: usize = 80;
 pub const FONT_SIZE: usize = 1_920;
 
 /// What the painter answers.
@@ -26,17 +25,25 @@ pub enum Comparison {
     Refused(u8),
 }
 
-/// Paints all 640 dots into the lent frame, or refuses and leaves it alone.
+/// A place on the glass that shows one code.
+#[derive(Clone, Copy, Debug, PartialEq)]
+pub struct Place {
+    pub line: usize,
+    pub position: usize,
+}
+
+/// Paints every dot into the lent frame, or refuses and leaves it alone.
 pub fn paint(panel: &Panel, font: &[u8], dark: bool, frame: &mut [u8]) -> Painting {
     if !panel.is_sound() {
         return Painting::Refused(UNSOUND);
     }
-    if frame.len() != FRAME_SIZE || font.len() != FONT_SIZE {
+    let chip = panel.sheet.chip;
+    if frame.len() != chip.frame_size() || font.len() != FONT_SIZE {
         return Painting::Refused(SIZE);
     }
     frame.fill(0);
     let mut lit = 0;
-    for row in 0..ROWS {
+    for row in 0..chip.rows() {
         for column in 0..COLUMNS {
             if is_lit(&panel.sheet, font, dark, row, column) {
                 frame[10 * row + column / 8] |= 1 << (7 - column % 8);
@@ -51,37 +58,45 @@ fn is_lit(sheet: &Sheet, font: &[u8], dark: bool, row: usize, column: usize) -> 
     if !sheet.d {
         return false;
     }
-    let position = column / 5;
-    let code = code_at(sheet, position);
+    let place = Place { line: row / LINE_ROWS, position: column / 5 };
+    let row = row % LINE_ROWS;
+    let code = code_at(sheet, place);
     let five_dots = match code {
         0x00..=0x0F => sheet.pattern[8 * usize::from(code & 3) + row],
         _ => font[8 * usize::from(code - 16) + row],
     };
-    let at_cursor = position == cursor_position(sheet);
+    let at_cursor = place == cursor(sheet);
     five_dots >> (4 - column % 5) & 1 != 0
         || at_cursor && sheet.c && row == 7
         || at_cursor && sheet.b && dark
 }
 
-/// The code that a position of the screen shows.
-pub fn code_at(sheet: &Sheet, position: usize) -> u8 {
-    sheet.display[(position + usize::from(sheet.shift)) % 16]
+/// The code that a place shows: each line shifts within itself.
+pub fn code_at(sheet: &Sheet, place: Place) -> u8 {
+    sheet.display[LINE * place.line + (place.position + usize::from(sheet.shift)) % LINE]
 }
 
-/// The cursor moves with the display, so the shift is taken off the address.
-pub fn cursor_position(sheet: &Sheet) -> usize {
-    let address = match sheet.counter {
-        Counter::Display(DisplayAddress(at)) => at,
-        Counter::Pattern(PatternAddress(at)) => at % 16,
-    };
-    usize::from((address + 16 - sheet.shift) % 16)
+/// The cursor moves with the display, so the shift is taken off the address. An
+/// address of either memory counts as it is, as far as there are lines: on one
+/// line every pattern address stands on it.
+pub fn cursor(sheet: &Sheet) -> Place {
+    let address = usize::from(sheet.counter.number());
+    Place {
+        line: address / LINE % sheet.chip.lines(),
+        position: (address + LINE - usize::from(sheet.shift)) % LINE,
+    }
 }
 
-pub fn compare(one: &[u8], other: &[u8]) -> Comparison {
-    if one.len() != FRAME_SIZE || other.len() != FRAME_SIZE {
+/// Compares two frames of this chip. A comparison sees no panel, so the chip
+/// is all that it can find unsound.
+pub fn compare(chip: Chip, one: &[u8], other: &[u8]) -> Comparison {
+    if !chip.is_known() {
+        return Comparison::Refused(UNSOUND);
+    }
+    if [one, other].iter().any(|frame| frame.len() != chip.frame_size()) {
         return Comparison::Refused(SIZE);
     }
-    for row in 0..ROWS {
+    for row in 0..chip.rows() {
         for column in 0..COLUMNS {
             if dot(one, row, column) != dot(other, row, column) {
                 return Comparison::At { row, column };
@@ -107,13 +122,20 @@ pub fn trial_font() -> Vec<u8> {
 }
 
 #[cfg(test)]
+mod two_lines;
+
+#[cfg(test)]
 mod tests {
     use super::*;
+    use crate::chip::{Counter, DisplayAddress, PatternAddress};
     use crate::panel::Times;
+
+    const ROWS: usize = 8;
+    const FRAME_SIZE: usize = 80;
 
     /// The display on, all blank but one code at one address.
     fn showing(code: u8, address: usize) -> Panel {
-        let mut panel = Panel::fresh(Times::USUAL);
+        let mut panel = Panel::fresh(Chip::ONE_LINE, Times::USUAL);
         panel.sheet.d = true;
         panel.sheet.display[address] = code;
         panel
@@ -224,19 +246,19 @@ mod tests {
     #[test]
     fn the_first_dot_that_differs() {
         let one = [0x5A; FRAME_SIZE];
-        assert_eq!(compare(&one, &one), Comparison::Same);
+        assert_eq!(compare(Chip::ONE_LINE, &one, &one), Comparison::Same);
         for (byte, bit, row, column) in [(0, 7, 0, 0), (9, 0, 0, 79), (10, 7, 1, 0), (34, 4, 3, 35), (79, 0, 7, 79)] {
             let mut other = one;
             other[byte] ^= 1 << bit;
-            assert_eq!(compare(&one, &other), Comparison::At { row, column });
+            assert_eq!(compare(Chip::ONE_LINE, &one, &other), Comparison::At { row, column });
             other[79] ^= 1;
             other[byte] |= 1 << bit;
             let mut none = one;
             none[byte] &= !(1 << bit);
-            assert_eq!(compare(&other, &none), Comparison::At { row, column }, "the first of two");
+            assert_eq!(compare(Chip::ONE_LINE, &other, &none), Comparison::At { row, column }, "the first of two");
         }
         for sizes in [(79, 80), (80, 81), (0, 0)] {
-            assert_eq!(compare(&vec![0; sizes.0], &vec![0; sizes.1]), Comparison::Refused(SIZE));
+            assert_eq!(compare(Chip::ONE_LINE, &vec![0; sizes.0], &vec![0; sizes.1]), Comparison::Refused(SIZE));
         }
     }
 }

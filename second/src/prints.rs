@@ -1,17 +1,19 @@
-//! The two prints: the twelve lines of `glazomir`, and all of `trace`.
+//! The two prints: the twelve lines of `glazomir`, and all of `trace`, whichever
+//! chip the panel has.
 
 use crate::arguments::Lent;
 use crate::chip::{Counter, Width};
+use crate::chips::Chip;
 use crate::panel::number::{CUT, UNSOUND};
-use crate::panel::{self, Half, Panel, Run, Times};
+use crate::panel::{self, Half, Panel, Run};
 use crate::picture::{self, Comparison, Painting};
 use std::fmt::Write;
 
 pub const COUNTED: [&str; 8] = ["taken", "held", "status", "ignored", "torn", "back", "bad", "none"];
 
-/// What the mirror program prints for a log.
-pub fn glazomir(log: &[u8]) -> String {
-    let mut panel = Panel::fresh(Times::USUAL);
+/// What the mirror program prints for a log that is sent to this panel.
+pub fn glazomir(start: &Panel, log: &[u8]) -> String {
+    let mut panel = start.clone();
     let run = panel::run(&mut panel, log);
     let mut print = format!("records {}\n", run.records);
     for (name, count) in COUNTED.iter().zip(run.counts) {
@@ -23,7 +25,8 @@ pub fn glazomir(log: &[u8]) -> String {
         Counter::Pattern(_) => "pattern",
     };
     line(&mut print, format_args!("{word} {:02X}", panel.sheet.counter.number()));
-    line(&mut print, format_args!("codes {}", spaced(&panel.sheet.display)));
+    let codes = &panel.sheet.display[..panel.sheet.chip.places()];
+    line(&mut print, format_args!("codes {}", spaced(codes)));
     print
 }
 
@@ -72,7 +75,10 @@ fn answers(print: &mut String, run: &Run) {
 fn sheet(print: &mut String, panel: &Panel) {
     let sheet = &panel.sheet;
     let bit = u8::from;
-    line(print, format_args!("display {}", spaced(&sheet.display)));
+    line(print, format_args!("chip {}", sheet.chip.0));
+    // Of a chip that nobody knows all is shown that there is.
+    let shown = if sheet.chip == Chip::ONE_LINE { sheet.chip.places() } else { sheet.display.len() };
+    line(print, format_args!("display {}", spaced(&sheet.display[..shown])));
     line(print, format_args!("pattern {}", spaced(&sheet.pattern)));
     let memory = match sheet.counter {
         Counter::Display(_) => "display",
@@ -110,7 +116,7 @@ fn pictures(print: &mut String, lent: &Lent, panel: &Panel) {
         Some((one, other)) => (one, other),
         None => (light, dark),
     };
-    match picture::compare(one, other) {
+    match picture::compare(panel.sheet.chip, one, other) {
         Comparison::At { row, column } => line(print, format_args!("differ {row} {column}")),
         Comparison::Same => line(print, format_args!("differ none")),
         Comparison::Refused(number) => line(print, format_args!("differ refused {number}")),
@@ -137,7 +143,7 @@ mod tests {
     /// The lines of `trace` for a log, without the panel and the pictures.
     fn lines(lent: &Lent, log: &[u8]) -> Vec<String> {
         let print = trace(lent, log);
-        print.lines().take_while(|line| !line.starts_with("display")).map(str::to_string).collect()
+        print.lines().take_while(|line| !line.starts_with("chip")).map(str::to_string).collect()
     }
 
     fn usual() -> Lent {
@@ -196,6 +202,62 @@ mod tests {
         {
             assert!(print.contains(&format!("\n{line}\n")), "{line}");
         }
-        assert!(glazomir(&log).contains("\npattern 1E\ncodes 20 20"));
+        assert!(glazomir(&usual().panel, &log).contains("\npattern 1E\ncodes 20 20"));
+    }
+
+    /// A panel of this chip with 41h at its first place, and frames of its size.
+    fn lent_by(chip: u8) -> Lent {
+        let mut lent = usual();
+        lent.panel.sheet.chip = Chip(chip);
+        lent.panel.sheet.display[0] = 0x41;
+        lent.frame_size = lent.panel.sheet.chip.frame_size();
+        lent
+    }
+
+    /// The lines `sound` and `chip`, and how many bytes of display memory follow.
+    fn chip_and_display(lent: &Lent) -> (String, usize) {
+        let print = trace(lent, &[]);
+        let lines: Vec<&str> = print.lines().skip_while(|line| !line.starts_with("sound")).collect();
+        assert!(lines[2].starts_with("display 41 20 ") && lines[3].starts_with("pattern 00 "));
+        (format!("{}, {}", lines[0], lines[1]), lines[2].split(' ').count() - 1)
+    }
+
+    #[test]
+    fn the_chip_and_as_much_of_display_memory_as_it_has() {
+        assert_eq!(chip_and_display(&lent_by(31)), ("sound 1, chip 31".to_string(), 16));
+        assert_eq!(chip_and_display(&lent_by(35)), ("sound 1, chip 35".to_string(), 32));
+        assert_eq!(chip_and_display(&lent_by(0)), ("sound 0, chip 0".to_string(), 32));
+        assert_eq!(chip_and_display(&lent_by(255)), ("sound 0, chip 255".to_string(), 32));
+    }
+
+    #[test]
+    fn pictures_of_the_other_chips_size() {
+        let dots = "A5".repeat(80);
+        let print = trace(&Lent { frame_size: 80, ..lent_by(35) }, &[]);
+        assert!(print.ends_with(&format!("\nframe 0 refused 9 {dots}\nframe 1 refused 9 {dots}\ndiffer refused 9\n")));
+        let dots = "A5".repeat(160);
+        let print = trace(&Lent { frame_size: 160, ..lent_by(31) }, &[]);
+        assert!(print.ends_with(&format!("\nframe 0 refused 9 {dots}\nframe 1 refused 9 {dots}\ndiffer refused 9\n")));
+    }
+
+    #[test]
+    fn a_comparison_looks_at_the_chip_and_not_at_the_panel() {
+        let dots = "A5".repeat(80);
+        for (size, other) in [(80, 80), (160, 160), (0, 200)] {
+            let frames = Some((vec![0; size], vec![0; other]));
+            let print = trace(&Lent { frames, ..lent_by(34) }, &[]);
+            let refused = format!("\nframe 0 refused 10 {dots}\nframe 1 refused 10 {dots}\ndiffer refused 10\n");
+            assert!(print.ends_with(&refused), "{size}");
+        }
+        let mut lent = lent_by(35);
+        lent.panel.sheet.shift = 16;
+        assert!(trace(&lent, &[]).ends_with("\ndiffer none\n"), "both are as they were lent");
+    }
+
+    #[test]
+    fn a_refused_run_of_an_unknown_chip() {
+        let log = [log::write_transfer(0, 1, 0x41), vec![12]].concat();
+        let expected = ["refused 10", "records 1", "cut 0", "counts 0 0 0 0 0 0 0 0", "sound 0"];
+        assert_eq!(lines(&lent_by(36), &log), expected);
     }
 }

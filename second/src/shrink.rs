@@ -87,6 +87,8 @@ impl Shrinker<'_> {
 #[cfg(test)]
 mod tests {
     use super::*;
+    use crate::chips::Chip;
+    use crate::lend::text;
 
     #[test]
     fn leaves_the_one_record_that_shows() {
@@ -97,7 +99,18 @@ mod tests {
         }
         log.extend(&wanted);
         log.extend(log::write_reset(99));
-        let small = shrink(Trial::of_log(log), &|trial| split_records(&trial.log).contains(&&wanted[..]));
+        let trial = Trial::of_chip(Chip::ONE_LINE, log);
+        let small = shrink(trial, &|trial| split_records(&trial.log).contains(&&wanted[..]));
         assert_eq!(small.log, wanted);
+    }
+
+    /// A difference that two lines alone show keeps the chip and nothing else.
+    #[test]
+    fn leaves_the_chip_where_it_is_needed() {
+        let log = [log::write_transfer(0, 0, 0x9F), log::write_transfer(40, 1, 0x57)].concat();
+        let groups = vec![text("records"), text("chip 6635"), text("times 1 2 3"), text("frame 80")];
+        let trial = Trial { groups, log: log.clone() };
+        let small = shrink(trial, &|trial| trial.chip_named() == Some(Chip::TWO_LINES) && trial.log.len() >= 14);
+        assert_eq!((small.groups, small.log.len()), (vec![text("chip 6635")], 14));
     }
 }

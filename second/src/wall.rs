@@ -1,11 +1,12 @@
 //! What `wall` prints: the glass at the end of a log or at a time, drawn, and
-//! as text, codes and the cursor's position. docs/WALL.md says it.
+//! as text, codes and the cursor's place. docs/WALL.md says it.
 
 use crate::chip::Sheet;
+use crate::chips::LINE;
 use crate::log::{self, TIME_LIMIT};
 use crate::panel::number::{BACK, BAD};
-use crate::panel::{Panel, Times};
-use crate::picture::{self, COLUMNS, FRAME_SIZE, ROWS};
+use crate::panel::Panel;
+use crate::picture::{self, Place, COLUMNS};
 use crate::prints::spaced;
 
 /// The latest time that may be asked for; no record has it.
@@ -28,6 +29,8 @@ pub struct Asked {
     pub at: Option<u64>,
     /// None for the program's own.
     pub font: Option<Vec<u8>>,
+    /// The fresh panel that the log is sent to.
+    pub start: Panel,
 }
 
 /// The panel that is shown, and the record that it is the panel before.
@@ -38,8 +41,8 @@ pub struct Shown {
 }
 
 /// The glass before the first record that moved the clock past the time.
-pub fn shown(log: &[u8], at: Option<u64>) -> Shown {
-    let mut panel = Panel::fresh(Times::USUAL);
+pub fn shown(start: &Panel, log: &[u8], at: Option<u64>) -> Shown {
+    let mut panel = start.clone();
     for (place, record) in log::records(log).0.into_iter().enumerate() {
         let earlier = panel.clone();
         let answer = panel.answer(record).number;
@@ -54,20 +57,21 @@ pub fn shown(log: &[u8], at: Option<u64>) -> Shown {
 
 /// The print but for the drawing in half blocks.
 pub fn print(asked: &Asked, font: &[u8], log: &[u8]) -> Vec<u8> {
-    let panel = shown(log, asked.at).panel;
-    let mut frame = [0; FRAME_SIZE];
+    let panel = shown(&asked.start, log, asked.at).panel;
+    let mut frame = vec![0; panel.sheet.chip.frame_size()];
     picture::paint(&panel, font, asked.dark, &mut frame);
     match asked.form {
-        Form::Bitmap => [b"P4\n80 8\n", &frame[..]].concat(),
+        Form::Bitmap => [format!("P4\n80 {}\n", panel.sheet.chip.rows()).as_bytes(), &frame].concat(),
         Form::Ascii => (drawing(&frame) + &lines(&panel.sheet)).into_bytes(),
         Form::HalfBlocks => lines(&panel.sheet).into_bytes(),
     }
 }
 
+/// As many rows as the frame has bytes for.
 fn drawing(frame: &[u8]) -> String {
     let edge = format!("+{}+\n", "-".repeat(COLUMNS));
     let mut print = edge.clone();
-    for row in 0..ROWS {
+    for row in 0..frame.len() / 10 {
         let dot = |column| if picture::dot(frame, row, column) { '#' } else { '.' };
         let dots: String = (0..COLUMNS).map(dot).collect();
         print += &format!("|{dots}|\n");
@@ -75,15 +79,26 @@ fn drawing(frame: &[u8]) -> String {
     print + &edge
 }
 
+/// The text of every line, then the codes of every line, then the cursor.
 fn lines(sheet: &Sheet) -> String {
-    let codes: [u8; 16] = std::array::from_fn(|position| picture::code_at(sheet, position));
-    let text: String = codes.map(character).iter().collect();
-    let cursor = if sheet.d && (sheet.c || sheet.b) {
-        picture::cursor_position(sheet).to_string()
-    } else {
-        "off".to_string()
-    };
-    format!("text |{text}|\ncodes {}\ncursor {cursor}\n", spaced(&codes))
+    let (mut texts, mut all_codes) = (String::new(), String::new());
+    for line in 0..sheet.chip.lines() {
+        let codes: [u8; LINE] = std::array::from_fn(|position| picture::code_at(sheet, Place { line, position }));
+        let text: String = codes.map(character).iter().collect();
+        texts += &format!("text |{text}|\n");
+        all_codes += &format!("codes {}\n", spaced(&codes));
+    }
+    format!("{texts}{all_codes}cursor {}\n", cursor(sheet))
+}
+
+/// With one line there is no need to say which.
+fn cursor(sheet: &Sheet) -> String {
+    let Place { line, position } = picture::cursor(sheet);
+    match sheet.chip.lines() {
+        _ if !(sheet.d && (sheet.c || sheet.b)) => "off".to_string(),
+        1 => position.to_string(),
+        _ => format!("{position} line {line}"),
+    }
 }
 
 fn character(code: u8) -> char {
@@ -94,9 +109,18 @@ fn character(code: u8) -> char {
 }
 
 #[cfg(test)]
+mod two_lines;
+
+#[cfg(test)]
 mod tests {
     use super::*;
     use crate::chip::{Counter, DisplayAddress, PatternAddress};
+    use crate::chips::Chip;
+    use crate::panel::Times;
+
+    fn fresh() -> Panel {
+        Panel::fresh(Chip::ONE_LINE, Times::USUAL)
+    }
 
     fn instruction(time: u64, code: u8) -> Vec<u8> {
         log::write_transfer(time, 0, code)
@@ -108,14 +132,14 @@ mod tests {
 
     /// The text line of a log at a time.
     fn text(log: &[u8], at: Option<u64>) -> String {
-        let print = lines(&shown(log, at).panel.sheet);
+        let print = lines(&shown(&fresh(), log, at).panel.sheet);
         print.lines().next().expect("three lines").to_string()
     }
 
     /// The codes 80h to 8Fh by address, shifted so that position 0 shows 83h.
     fn shifted() -> Sheet {
-        let mut sheet = Sheet::fresh();
-        sheet.display = std::array::from_fn(|at| 0x80 + at as u8);
+        let mut sheet = Sheet::fresh(Chip::ONE_LINE);
+        sheet.display[..16].copy_from_slice(&std::array::from_fn::<u8, 16, _>(|at| 0x80 + at as u8));
         sheet.shift = 3;
         sheet
     }
@@ -175,8 +199,8 @@ mod tests {
         assert_eq!(text(&log, Some(300)), "text |ab              |");
         assert_eq!(text(&log, Some(150)), "text |a               |", "at the time of one that is back");
         assert_eq!(text(&log, Some(400)), "text |abc             |");
-        assert_eq!(shown(&log, Some(300)).before, Some(5));
-        assert_eq!(shown(&log, Some(400)).before, None);
+        assert_eq!(shown(&fresh(), &log, Some(300)).before, Some(5));
+        assert_eq!(shown(&fresh(), &log, Some(400)).before, None);
     }
 
     #[test]
@@ -184,7 +208,7 @@ mod tests {
         let status = log::write_transfer(200, 2, 0);
         for later in [status, instruction(200, 0x00), log::write_reset(200), data(110, b'x')] {
             let log = [data(100, b'a'), later, data(20_000, b'b')].concat();
-            assert_eq!(shown(&log, Some(105)).before, Some(1));
+            assert_eq!(shown(&fresh(), &log, Some(105)).before, Some(1));
             assert_eq!(text(&log, Some(105)), "text |a               |");
         }
     }
@@ -202,7 +226,7 @@ mod tests {
     #[test]
     fn a_bitmap_is_the_frame_behind_two_lines() {
         let font = vec![0; 1_920];
-        let mut asked = Asked { form: Form::Bitmap, dark: false, at: None, font: None };
+        let mut asked = Asked { form: Form::Bitmap, dark: false, at: None, font: None, start: fresh() };
         let mut expected = b"P4\n80 8\n".to_vec();
         expected.extend([0; 80]);
         let log = instruction(0, 0x0D);

@@ -4,7 +4,7 @@ use mathlib.Core.Path.{_≡_}
 use mathlib.Core.Bool.{Bool, true, false}
 use mathlib.Core.List.{List}
 use lib.ListN.{replicate}
-use Rattle.chip.specs.Sizes.{displaySize, patternSize}
+use Rattle.chip.specs.Sizes.{displaySize, patternSize, space}
 use Rattle.chip.specs.Address.{display, readDisplay, readPattern}
 use Rattle.chip.specs.declared.address.Address.{Address}
 use Rattle.chip.specs.declared.address.Address.the-variants.{Display, Pattern}
@@ -15,10 +15,11 @@ use Rattle.chip.specs.declared.sheet.Sheet.{Sheet}
 abbrev pub sheetOf : Registers → List ℕ → List ℕ → Sheet
 sheetOf r d p = record { registers = r; display = d; pattern = p }
 
--- fresh: display memory all 20h, pattern memory all 0, address 0 in display memory, shift 0, I/D = 1, S = D = C = B = 0, width 8, Function Set bits 0
-abbrev pub freshRegisters : Registers
-freshRegisters =
+-- fresh, of a chip: display memory all 20h, pattern memory all 0, address 0 in display memory, shift 0, I/D = 1, S = D = C = B = 0, width 8, Function Set bits 0
+abbrev pub freshRegisters : ℕ → Registers
+freshRegisters chip =
     record {
+      chip = chip;
       address = Display (display 0);
       shift = 0;
       up = true;
@@ -30,16 +31,16 @@ freshRegisters =
       function = 0;
     }
 
-abbrev pub freshSheet : Sheet
-freshSheet = sheetOf freshRegisters (replicate displaySize 0x20) (replicate patternSize 0)
+abbrev pub freshSheet : ℕ → Sheet
+freshSheet chip = sheetOf (freshRegisters chip) (replicate displaySize space) (replicate patternSize 0)
 
 -- the byte at the address, in the memory that it points into
-abbrev pub readAt : Address → List ℕ → List ℕ → ℕ
-readAt (Display a) d p = readDisplay a d
-readAt (Pattern a) d p = readPattern a p
+abbrev pub readAt : ℕ → Address → List ℕ → List ℕ → ℕ
+readAt chip (Display a) d p = readDisplay chip a d
+readAt chip (Pattern a) d p = readPattern a p
 
 abbrev pub readHere : Registers → List ℕ → List ℕ → ℕ
-readHere r d p = readAt (r .address) d p
+readHere r d p = readAt (r .chip) (r .address) d p
 
 -- registers r with the memories at exit are the sheet s
 abbrev pub Starts : Sheet → Registers → List ℕ → List ℕ → Type 0
@@ -69,16 +70,16 @@ withPattern p s = sheetOf (s .registers) (s .display) p
 
 -- registers with what is set together set anew
 abbrev pub withAddress : Address → Registers → Registers
-withAddress a r = record { address = a; shift = r .shift; up = r .up; follow = r .follow; on = r .on; cursor = r .cursor; blink = r .blink; eight = r .eight; function = r .function }
+withAddress a r = record { chip = r .chip; address = a; shift = r .shift; up = r .up; follow = r .follow; on = r .on; cursor = r .cursor; blink = r .blink; eight = r .eight; function = r .function }
 
 abbrev pub withShift : ℕ → Registers → Registers
-withShift n r = record { address = r .address; shift = n; up = r .up; follow = r .follow; on = r .on; cursor = r .cursor; blink = r .blink; eight = r .eight; function = r .function }
+withShift n r = record { chip = r .chip; address = r .address; shift = n; up = r .up; follow = r .follow; on = r .on; cursor = r .cursor; blink = r .blink; eight = r .eight; function = r .function }
 
 abbrev pub withEntry : Bool → Bool → Registers → Registers
-withEntry i s r = record { address = r .address; shift = r .shift; up = i; follow = s; on = r .on; cursor = r .cursor; blink = r .blink; eight = r .eight; function = r .function }
+withEntry i s r = record { chip = r .chip; address = r .address; shift = r .shift; up = i; follow = s; on = r .on; cursor = r .cursor; blink = r .blink; eight = r .eight; function = r .function }
 
 abbrev pub withScreen : Bool → Bool → Bool → Registers → Registers
-withScreen d c b r = record { address = r .address; shift = r .shift; up = r .up; follow = r .follow; on = d; cursor = c; blink = b; eight = r .eight; function = r .function }
+withScreen d c b r = record { chip = r .chip; address = r .address; shift = r .shift; up = r .up; follow = r .follow; on = d; cursor = c; blink = b; eight = r .eight; function = r .function }
 
 abbrev pub withFunction : Bool → ℕ → Registers → Registers
-withFunction width bits r = record { address = r .address; shift = r .shift; up = r .up; follow = r .follow; on = r .on; cursor = r .cursor; blink = r .blink; eight = width; function = bits }
+withFunction width bits r = record { chip = r .chip; address = r .address; shift = r .shift; up = r .up; follow = r .follow; on = r .on; cursor = r .cursor; blink = r .blink; eight = width; function = bits }

@@ -1,27 +1,45 @@
--- The sheet's part of soundness (document 01, "The panel").
+-- The sheet's part of soundness (document 01, "The panel"; of the chip, document 02, wish 1).
 use Prim.Native.Nat.{ℕ}
 use mathlib.Core.Bool.{Bool, true, false, not}
 use mathlib.Core.List.{List, [], _∷_}
-use lib.Dec.{ltb, leb}
+use lib.ListN.{drop}
+use lib.Dec.{ltb, leb, eqb}
 use Rattle.laws.specs.Pick.{pick}
-use Rattle.chip.specs.Sizes.{positions, displaySize, patternSize, rowEnd, functionEnd}
+use Rattle.chip.specs.Sizes.{isKnown, placesOf, positions, patternSize, rowEnd, functionEnd, space}
 use Rattle.chip.specs.declared.address.Address.{Address}
 use Rattle.chip.specs.declared.address.Address.the-variants.{Display, Pattern}
 use Rattle.chip.specs.declared.sheet.Sheet.{Sheet}
 
 -- the address lies in its memory
-abbrev pub addressFits : Address → Bool
-addressFits (Display d) = ltb (d .0) displaySize
-addressFits (Pattern p) = ltb (p .0) patternSize
+abbrev pub addressFits : ℕ → Address → Bool
+addressFits chip (Display d) = ltb (d .0) (placesOf chip)
+addressFits chip (Pattern p) = ltb (p .0) patternSize
+
+-- no number of a list has a fault
+unfoldable pub faultless : (ℕ → Bool) → List ℕ → Bool
+faultless fault [] = true
+faultless fault (x ∷ xs) = pick (fault x) false (faultless fault xs)
+
+-- the fault of a byte that must be blank, and of an entry that must have five bits
+abbrev pub unblank : ℕ → Bool
+unblank x = not (eqb x space)
+
+abbrev pub sixBits : ℕ → Bool
+sixBits x = leb rowEnd x
+
+-- display memory past the chip's own places is 20h
+abbrev pub blankPast : ℕ → List ℕ → Bool
+blankPast chip memory = faultless unblank (drop (placesOf chip) memory)
 
 -- every pattern entry has five bits
-unfoldable pub patternFits : List ℕ → Bool
-patternFits [] = true
-patternFits (x ∷ xs) = pick (leb rowEnd x) false (patternFits xs)
+abbrev pub patternFits : List ℕ → Bool
+patternFits entries = faultless sixBits entries
 
--- address, shift, Function Set bits and pattern entries lie in range
+-- the chip is known; address, shift, Function Set bits and pattern entries lie in range; display memory past the chip's own is 20h
 abbrev pub soundSheet : Sheet → Bool
 soundSheet s =
-    pick (not (addressFits (s .registers .address))) false
+    pick (not (isKnown (s .registers .chip))) false
+    (pick (not (addressFits (s .registers .chip) (s .registers .address))) false
     (pick (leb positions (s .registers .shift)) false
-    (pick (leb functionEnd (s .registers .function)) false (patternFits (s .pattern))))
+    (pick (leb functionEnd (s .registers .function)) false
+    (pick (not (blankPast (s .registers .chip) (s .display))) false (patternFits (s .pattern))))))

@@ -4,7 +4,7 @@ use mathlib.Core.Bool.{Bool, true, false}
 use lib.ListN.{replicate}
 use Rattle.laws.specs.Pick.{pick}
 use Rattle.laws.specs.Ring.{moved}
-use Rattle.chip.specs.Sizes.{positions, displaySize}
+use Rattle.chip.specs.Sizes.{positions, displaySize, space}
 use Rattle.chip.specs.Address.{display, movedAddress, writtenDisplay, writtenPattern}
 use Rattle.chip.specs.Sheet.{onRegisters, withDisplay, withPattern, withAddress, withShift, withEntry, withScreen, withFunction}
 use Rattle.chip.specs.Instruction.{decoded}
@@ -20,7 +20,7 @@ homed s = onRegisters (λ r. withAddress (Display (display 0)) (withShift 0 r)) 
 
 -- Clear: 20h everywhere in display memory, display address 0, shift 0, I/D = 1; S stays
 abbrev pub cleared : Sheet → Sheet
-cleared s = withDisplay (replicate displaySize 0x20) (onRegisters (withEntry true (s .registers .follow)) (homed s))
+cleared s = withDisplay (replicate displaySize space) (onRegisters (withEntry true (s .registers .follow)) (homed s))
 
 -- the entry bits I/D and S
 abbrev pub entered : Bool → Bool → Sheet → Sheet
@@ -32,9 +32,9 @@ screenSet on cursor blink s = onRegisters (withScreen on cursor blink) s
 
 -- the address by one, within its memory
 abbrev pub stepped : Bool → Sheet → Sheet
-stepped up s = onRegisters (withAddress (movedAddress up (s .registers .address))) s
+stepped up s = onRegisters (withAddress (movedAddress (s .registers .chip) up (s .registers .address))) s
 
--- the shift alone: left +1, right -1, mod 16
+-- the shift alone, one for both lines: left +1, right -1, mod 16
 abbrev pub shifted : Bool → Sheet → Sheet
 shifted left s = onRegisters (withShift (moved positions left (s .registers .shift))) s
 
@@ -60,11 +60,11 @@ acted (Set a) s = addressSet a s
 
 -- a code carried out
 abbrev pub obeyed : ℕ → Sheet → Sheet
-obeyed code s = acted (decoded code) s
+obeyed code s = acted (decoded (s .registers .chip) code) s
 
 -- a byte stored at the address, in the memory that it points into
 abbrev pub storedAt : Address → ℕ → Sheet → Sheet
-storedAt (Display a) byte s = withDisplay (writtenDisplay a byte (s .display)) s
+storedAt (Display a) byte s = withDisplay (writtenDisplay (s .registers .chip) a byte (s .display)) s
 storedAt (Pattern a) byte s = withPattern (writtenPattern a byte (s .pattern)) s
 
 -- the display shifts with the address where told: left if I/D = 1, right if 0

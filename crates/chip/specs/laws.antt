@@ -1,3 +1,5 @@
+pub mod SizesLaws
+pub mod ChipLaws
 pub mod StepLaws
 pub mod WidthLaws
 pub mod SoundLaws

@@ -1,12 +1,12 @@
-// What an instruction code asks for.
+// What an instruction code asks for; the chip says how many bits of a display address count.
 ghost use mathlib.Core.Path.{_≡_};
 ghost use Rattle.chip.specs.Instruction.{decoded};
 use crate::address::Address;
 use crate::address::DisplayAddress;
 use crate::address::PatternAddress;
-use crate::sizes::DISPLAY_SIZE;
 use crate::sizes::FUNCTION_END;
 use crate::sizes::PATTERN_SIZE;
+use crate::sizes::places;
 
 pub enum Instruction {
     Nothing,
@@ -24,8 +24,8 @@ pub enum Instruction {
     Set(Address),
 }
 
-pub fn decode(code: u8) -> Instruction
-    ensures { λ r. ⌜ r ≡ decoded code ⌝ }
+pub fn decode(chip: u8, code: u8) -> Instruction
+    ensures { λ r. ⌜ r ≡ decoded chip code ⌝ }
 {
     let bit0 = code / 1 % 2 == 1;
     let bit1 = code / 2 % 2 == 1;
@@ -55,6 +55,6 @@ pub fn decode(code: u8) -> Instruction
         0x40..=0x7F => Instruction::Set(Address::Pattern(PatternAddress(
             code % PATTERN_SIZE as u8,
         ))),
-        _ => Instruction::Set(Address::Display(DisplayAddress(code % DISPLAY_SIZE as u8))),
+        _ => Instruction::Set(Address::Display(DisplayAddress(code % places(chip) as u8))),
     }
 }

@@ -11,9 +11,12 @@ use crate::instruction::decode;
 use crate::sizes::DISPLAY_SIZE;
 use crate::sizes::PATTERN_SIZE;
 use crate::sizes::POSITIONS;
+use crate::sizes::SPACE;
 
 // All of the sheet but its memories.
 pub struct Registers {
+    // The chip's number, which no step changes.
+    pub chip: u8,
     pub address: Address,
     pub shift: u8,
     // I/D: up is 1.
@@ -31,13 +34,18 @@ pub struct Registers {
 }
 
 impl Registers {
-    // A fresh sheet, in the memories lent.
-    pub fn fresh(display: &mut [u8; DISPLAY_SIZE], pattern: &mut [u8; PATTERN_SIZE]) -> Registers
-        ensures { λ r. ⌜ Starts freshSheet r (now (display .exit)) (now (pattern .exit)) ⌝ }
+    // A fresh sheet of a chip, in the memories lent.
+    pub fn fresh(
+        chip: u8,
+        display: &mut [u8; DISPLAY_SIZE],
+        pattern: &mut [u8; PATTERN_SIZE],
+    ) -> Registers
+        ensures { λ r. ⌜ Starts (freshSheet chip) r (now (display .exit)) (now (pattern .exit)) ⌝ }
     {
-        *display = [0x20; DISPLAY_SIZE];
+        *display = [SPACE; DISPLAY_SIZE];
         *pattern = [0; PATTERN_SIZE];
         Registers {
+            chip,
             address: Address::Display(DisplayAddress(0)),
             shift: 0,
             up: true,
@@ -53,7 +61,7 @@ impl Registers {
     pub fn clear(self, display: &mut [u8; DISPLAY_SIZE]) -> Registers
         ensures { λ r. ⌜ StepsDisplay cleared self (now (display .entry)) r (now (display .exit)) ⌝ }
     {
-        *display = [0x20; DISPLAY_SIZE];
+        *display = [SPACE; DISPLAY_SIZE];
         Registers {
             address: Address::Display(DisplayAddress(0)),
             shift: 0,
@@ -96,7 +104,7 @@ impl Registers {
     {
         let a = self.address;
         Registers {
-            address: a.moved(up),
+            address: a.moved(self.chip, up),
             ..self
         }
     }
@@ -106,7 +114,7 @@ impl Registers {
         ensures { λ r. ⌜ Steps (shifted left) self r ⌝ }
     {
         Registers {
-            shift: step_round(self.shift, POSITIONS as u8 - 1, left),
+            shift: step_round(self.shift, POSITIONS, left),
             ..self
         }
     }
@@ -147,7 +155,7 @@ impl Registers {
     pub fn obey(self, code: u8, display: &mut [u8; DISPLAY_SIZE]) -> Registers
         ensures { λ r. ⌜ StepsDisplay (obeyed code) self (now (display .entry)) r (now (display .exit)) ⌝ }
     {
-        self.act(decode(code), display)
+        self.act(decode(self.chip, code), display)
     }
 
     // The byte at the address: what a data read puts on the bus.
@@ -156,7 +164,7 @@ impl Registers {
     {
         let a = self.address;
         match a {
-            Address::Display(d) => d.read(display),
+            Address::Display(d) => d.read(self.chip, display),
             Address::Pattern(p) => p.read(pattern),
         }
     }
@@ -192,7 +200,7 @@ impl Registers {
         let moved = self.step(self.up);
         match a {
             Address::Display(d) => {
-                d.write(byte, display);
+                d.write(self.chip, byte, display);
                 moved.followed(self.follow)
             }
             Address::Pattern(p) => {

@@ -1,7 +1,7 @@
 // The whole sheet by value: the state that the meaning speaks of, and its part of soundness.
 ghost use mathlib.Core.Path.{_≡_};
 ghost use Rattle.chip.specs.Sheet.{freshSheet};
-ghost use Rattle.chip.specs.Sound.{addressFits, patternFits, soundSheet};
+ghost use Rattle.chip.specs.Sound.{addressFits, patternFits, blankPast, soundSheet};
 use crate::address::Address;
 use crate::registers::Registers;
 use crate::sizes::DISPLAY_SIZE;
@@ -9,6 +9,9 @@ use crate::sizes::FUNCTION_END;
 use crate::sizes::PATTERN_SIZE;
 use crate::sizes::POSITIONS;
 use crate::sizes::ROW_END;
+use crate::sizes::SPACE;
+use crate::sizes::known;
+use crate::sizes::places;
 
 pub struct Sheet {
     pub registers: Registers,
@@ -18,14 +21,28 @@ pub struct Sheet {
 
 impl Address {
     // Whether the address lies in its memory.
-    pub fn fits(self) -> bool
-        ensures { λ r. ⌜ r ≡ addressFits self ⌝ }
+    pub fn fits(self, chip: u8) -> bool
+        ensures { λ r. ⌜ r ≡ addressFits chip self ⌝ }
     {
         match self {
-            Address::Display(d) => (d.0 as usize) < DISPLAY_SIZE,
+            Address::Display(d) => (d.0 as usize) < places(chip),
             Address::Pattern(p) => (p.0 as usize) < PATTERN_SIZE,
         }
     }
+}
+
+// Whether display memory past the chip's own places is blank.
+pub fn blank_past(chip: u8, display: [u8; DISPLAY_SIZE]) -> bool
+    ensures { λ r. ⌜ r ≡ blankPast chip display ⌝ }
+{
+    let mut i = places(chip);
+    while i < DISPLAY_SIZE {
+        if display[i] != SPACE {
+            return false;
+        }
+        i += 1;
+    }
+    true
 }
 
 // Whether every entry has five bits.
@@ -43,12 +60,12 @@ pub fn pattern_fits(pattern: [u8; PATTERN_SIZE]) -> bool
 }
 
 impl Sheet {
-    pub fn fresh() -> Sheet
-        ensures { λ r. ⌜ r ≡ freshSheet ⌝ }
+    pub fn fresh(chip: u8) -> Sheet
+        ensures { λ r. ⌜ r ≡ freshSheet chip ⌝ }
     {
         let mut display = [0; DISPLAY_SIZE];
         let mut pattern = [0; PATTERN_SIZE];
-        let registers = Registers::fresh(&mut display, &mut pattern);
+        let registers = Registers::fresh(chip, &mut display, &mut pattern);
         Sheet {
             registers,
             display,
@@ -61,14 +78,21 @@ impl Sheet {
     {
         let r = self.registers;
         let a = r.address;
+        let display = self.display;
         let pattern = self.pattern;
-        if !a.fits() {
+        if !known(r.chip) {
+            return false;
+        }
+        if !a.fits(r.chip) {
             return false;
         }
         if POSITIONS <= r.shift as usize {
             return false;
         }
         if FUNCTION_END <= r.function {
+            return false;
+        }
+        if !blank_past(r.chip, display) {
             return false;
         }
         pattern_fits(pattern)

@@ -68,6 +68,6 @@ pub record Chain (p : Panel) (log : List ℕ) : Type 0 where
   pub whole : OfRun ours p log
   pub parts : (parts : List (List ℕ)) → joined parts ≡ log → endOf (fedAll (startOf p) parts) ≡ runOf p log
 
--- THE CHAIN: from a fresh panel of any three times that the type holds, for every log made of bytes
+-- THE CHAIN: from a fresh panel of a known chip and any three times that the type holds, for every log made of bytes
 abbrev pub OneChain : Type 0
-OneChain = (reset long short : ℕ) (log : List ℕ) → Typed reset long short log → Chain (freshPanel reset long short) log
+OneChain = (chip reset long short : ℕ) (log : List ℕ) → Typed chip reset long short log → Chain (freshPanel chip reset long short) log

@@ -5,6 +5,7 @@ pub mod Replay
 pub mod Striking
 pub mod Rules
 pub mod PictureRules
+pub mod Unknown
 pub mod Unique
 pub mod laws
 pub mod cases

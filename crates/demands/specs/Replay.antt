@@ -26,12 +26,12 @@ pub data Entry : Type 0 where
   write : (byte : ℕ) → Entry
   read reset : Entry
 
--- carried out by the steps; a reset gives a fresh sheet
+-- carried out by the steps; a reset gives a fresh sheet of the same chip
 abbrev pub carried : Entry → Sheet → Sheet
 carried (instruct code) s = obeyed code s
 carried (write byte) s = written byte s
 carried read s = passed s
-carried reset s = freshSheet
+carried reset s = freshSheet (s .registers .chip)
 
 -- once each, in order
 abbrev pub carriedAll : List Entry → Sheet → Sheet
@@ -84,11 +84,11 @@ takenFrom first (a ∷ rest) =
 abbrev pub takenOf : List (Answered (List ℕ) Response) → List Entry
 takenOf answers = takenFrom none answers
 
--- DEMAND 3, FIRST HALF, of any mirror: from a fresh panel, for any log
+-- DEMAND 3, FIRST HALF, of any mirror: from a fresh panel of a known chip, for any log
 abbrev pub Replays : Mirror → Type 0
 Replays m =
-    (reset long short : ℕ) (log : List ℕ) → Typed reset long short log →
-    carriedAll (takenOf (answersBy m (freshPanel reset long short) log)) freshSheet ≡ panelBy m (freshPanel reset long short) log .sheet
+    (chip reset long short : ℕ) (log : List ℕ) → Typed chip reset long short log →
+    carriedAll (takenOf (answersBy m (freshPanel chip reset long short) log)) (freshSheet chip) ≡ panelBy m (freshPanel chip reset long short) log .sheet
 
 -- no entry is the instruction 00h
 abbrev pub Something : Entry → Type 0

@@ -52,9 +52,9 @@ pub record StruckFrom (m : Mirror) (p : Panel) (log : List ℕ) : Type 0 where
   -- striking twice is striking once
   pub twice : struckLog m p (struckLog m p log) ≡ struckLog m p log
 
--- DEMAND 3, SECOND HALF, of any mirror: from a fresh panel, for any log
+-- DEMAND 3, SECOND HALF, of any mirror: from a fresh panel of a known chip, for any log
 abbrev pub Strikes : Mirror → Type 0
-Strikes m = (reset long short : ℕ) (log : List ℕ) → Typed reset long short log → StruckFrom m (freshPanel reset long short) log
+Strikes m = (chip reset long short : ℕ) (log : List ℕ) → Typed chip reset long short log → StruckFrom m (freshPanel chip reset long short) log
 
 -- and of two runs from a panel: the same sheet and the same busy end, and the struck log is not cut
 pub record SameRun (p : Panel) (log : List ℕ) : Type 0 where

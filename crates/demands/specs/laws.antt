@@ -7,6 +7,7 @@ pub mod MirrorLaws
 pub mod StrikingLaws
 pub mod RulesLaws
 pub mod CountsLaws
+pub mod UnknownLaws
 pub mod UniqueChip
 pub mod UniqueDesk
 pub mod UniqueLog

@@ -1,7 +1,9 @@
 pub mod Bytes
+pub mod Chips
 pub mod Number
 pub mod Page
 pub mod Reads
+pub mod Times
 pub mod engine
 pub mod laws
 pub mod cases

@@ -1,1 +1,2 @@
+pub mod ChipsCases
 pub mod NumberCases

@@ -1,2 +1,3 @@
+pub mod ChipsLaws
 pub mod NumberLaws
 pub mod PageLaws

@@ -1,18 +1,24 @@
 // The mirror program: reads a log on standard input, and prints the counts, the address and the codes.
 use chip::address::Address;
+use chip::registers::Registers;
 use chip::sizes::DISPLAY_SIZE;
+use chip::sizes::places;
+use desk::arguments::Given;
 use desk::arguments::asked;
 use desk::input::BLOCK;
 use desk::input::Input;
 use desk::print::show;
 use desk::print::show_bytes;
 use desk::print::show_number;
-use desk::times::LONG;
-use desk::times::RESET;
-use desk::times::SHORT;
+use desk::told::told_at;
 use mirror::panel::Panel;
 use mirror::stream::Run;
 use mirror::stream::Stream;
+
+// The groups of arguments.
+const CHIP: usize = 0;
+
+const TIMES: usize = 1;
 
 // What the whole of standard input leaves, and whether the reading failed.
 struct Fed {
@@ -53,25 +59,28 @@ fn print_counts(run: Run) {
     line(b"cut ", run.cut as u64);
 }
 
-fn print_address(address: Address) {
+fn print_address(registers: Registers) {
+    let address = registers.address;
     match address {
         Address::Display(_) => show(b"address"),
         Address::Pattern(_) => show(b"pattern"),
     }
-    show_bytes(b" ", &[address.number()]);
+    show_bytes(b" ", &[address.number(registers.chip)]);
 }
 
-fn print_codes(display: [u8; DISPLAY_SIZE]) {
+// By display address, as many as the chip has.
+fn print_codes(chip: u8, display: [u8; DISPLAY_SIZE]) {
+    let n = places(chip);
     show(b"\ncodes");
-    show_bytes(b" ", &display);
+    show_bytes(b" ", &display[..n]);
     show(b"\n");
 }
 
-// Whether it is to go on: it takes no argument, and its help explains the twelve lines.
-fn goes_on() -> bool {
-    let given = asked(
+// What was asked for; its help explains the twelve lines.
+fn arguments() -> Given {
+    asked(
         b"glazomir",
-        b"",
+        b"chip NAME, times R L S",
         b"glazomir < LOG carries a log of bus transfers out on a fresh panel, and prints twelve lines:\n\
         records N   how many records the log has, up to a cut\n\
         taken N     carried out: instructions, data transfers and resets\n\
@@ -84,21 +93,28 @@ fn goes_on() -> bool {
         none N      instruction writes of 00h while the chip was free\n\
         cut B       1 where the log breaks off within a record, otherwise 0\n\
         address A   where the address counter points; `pattern A` where that is in pattern memory\n\
-        codes ..    the sixteen codes of display memory, by display address\n\
-        Counts are decimal, the last two lines hexadecimal. The execution times are 10000 (reset), 1640 (long)\n\
-        and 40 (short) microseconds. It takes no argument.\n\
+        codes ..    the codes of display memory, by display address: sixteen, or 32 of two lines\n\
+        Counts are decimal, the last two lines hexadecimal.\n\
+        chip NAME    6631, one line, or 6635, two lines; without it, 6631\n\
+        times R L S  reset, long and short time in microseconds; without it, 10000 1640 40\n\
         A log of any length is read as it comes, in constant memory. trace prints the answer to every record\n\
         and the whole panel, wall draws the glass, report lists what was not carried out.\n",
-    );
-    given.ok
+    )
 }
 
 fn main() {
-    if !goes_on() {
+    let given = arguments();
+    if !given.ok {
         return;
     }
+    let places = given.places;
+    let told = told_at(b"glazomir", places[CHIP], places[TIMES]);
+    if !told.ok {
+        return;
+    }
+    let times = told.times;
     let mut block = [0; BLOCK];
-    let start = Stream::start(Panel::fresh(RESET, LONG, SHORT));
+    let start = Stream::start(Panel::fresh(told.chip, times.reset, times.long, times.short));
     let fed = feed_all(start, &mut block);
     if fed.failed {
         return;
@@ -108,9 +124,8 @@ fn main() {
     let panel = run.panel;
     let sheet = panel.sheet;
     let registers = sheet.registers;
-    let address = registers.address;
     let display = sheet.display;
     print_counts(run);
-    print_address(address);
-    print_codes(display);
+    print_address(registers);
+    print_codes(told.chip, display);
 }

@@ -5,6 +5,7 @@ use mathlib.Core.Bool.{Bool, true, false, _||_}
 use mathlib.Core.List.{List, [], _∷_}
 use lib.ListN.{getD}
 use lib.Dec.{leb, eqb}
+use Rattle.chip.specs.Sizes.{isKnown}
 use Rattle.mirror.specs.Answer.{numberOf}
 use Rattle.mirror.specs.Panel.{soundPanel}
 use Rattle.mirror.specs.Table.{recordOf}
@@ -36,8 +37,9 @@ AllUnclocked p (f ∷ fs) = (clocked (answerTo p f) ≡ false) × AllUnclocked (
 abbrev pub ByteLog : List ℕ → Type 0
 ByteLog s = (i : ℕ) → getD s i 0 < 256
 
--- what the types hold: three times below 65,536, and a log made of bytes
-pub record Typed (reset long short : ℕ) (log : List ℕ) : Type 0 where
+-- a known chip, and what the types hold: three times below 65,536, and a log made of bytes
+pub record Typed (chip reset long short : ℕ) (log : List ℕ) : Type 0 where
+  pub known : isKnown chip ≡ true
   pub reset-fits : reset < 65536
   pub long-fits : long < 65536
   pub short-fits : short < 65536

@@ -90,7 +90,8 @@ AllDecided eight o [] = Unit {0}
 AllDecided eight o (e ∷ es) =
     (isUsable o e ≡ true → Decided (begunBy o e) e) × AllDecided (widthAfter eight o e) (openAfter eight o e) es
 
--- and so for every log from a fresh panel, at width 8 with no half open
+-- and so for every log from a fresh panel of a known chip, at width 8 with no half open
 abbrev pub IgnoredExactlyWhenBusy : Type 0
 IgnoredExactlyWhenBusy =
-    (reset long short : ℕ) (log : List ℕ) → Typed reset long short log → AllDecided true none (notedFrom (freshPanel reset long short) (frames log))
+    (chip reset long short : ℕ) (log : List ℕ) → Typed chip reset long short log →
+    AllDecided true none (notedFrom (freshPanel chip reset long short) (frames log))

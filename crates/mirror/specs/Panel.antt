@@ -9,11 +9,11 @@ use Rattle.mirror.specs.declared.half.Half.{Half}
 use Rattle.mirror.specs.declared.half.Half.the-variants.{Empty, Ignored, Waiting}
 use Rattle.mirror.specs.declared.panel.Panel.{Panel}
 
--- fresh: a fresh sheet, busy end 0, last time 0, no half; the three times are given
-abbrev pub freshPanel : ℕ → ℕ → ℕ → Panel
-freshPanel reset long short =
+-- fresh: a fresh sheet of the chip, busy end 0, last time 0, no half; the chip and the three times are given
+abbrev pub freshPanel : ℕ → ℕ → ℕ → ℕ → Panel
+freshPanel chip reset long short =
     record {
-      sheet = freshSheet;
+      sheet = freshSheet chip;
       busy = 0;
       half = Empty;
       times = record { reset = reset; long = long; short = short };

@@ -9,6 +9,7 @@ use Rattle.log.specs.Frame.{frameOf, cutAt, wantsMore}
 use Rattle.log.specs.Frames.{frames, tail, recordsOf}
 use Rattle.log.specs.Flaw.{flawOf}
 use Rattle.log.specs.Carry.{carriedOf, carryOf, wantingOf, more, filled}
+use Rattle.chip.specs.Sizes.{oneLine}
 use Rattle.mirror.specs.Panel.{soundPanel, freshPanel}
 use Rattle.mirror.specs.Table.{rowFor}
 use Rattle.mirror.specs.Run.{capped, raised, started, counted, onward}
@@ -22,7 +23,7 @@ use Rattle.mirror.specs.declared.stream.Reply.the-variants.{Answered, Mo
 
 -- what a log read with an unsound panel is counted with: only its number of records is shown
 abbrev pub standIn : Panel
-standIn = freshPanel 0 0 0
+standIn = freshPanel oneLine 0 0 0
 
 -- nothing is read yet; an unsound panel is kept as it was given
 abbrev pub startAs : Bool → Panel → Stream

@@ -103,10 +103,10 @@ heldHalf p log = Waiting (rsOf log) (rwOf log) (pick (rwOf log) (sourceOf p log 
 abbrev pub ignoredHalf : Panel → List ℕ → Half
 ignoredHalf p log = pick (isFirst p) (Ignored (rsOf log) (rwOf log)) Empty
 
--- what a taken record does to the sheet: a reset, a data read, a data write, an instruction
+-- what a taken record does to the sheet: a reset, which keeps the chip, a data read, a data write, an instruction
 abbrev pub sheetFor : Panel → List ℕ → Sheet
 sheetFor p log =
-    pick (isReset log) freshSheet
+    pick (isReset log) (freshSheet (p .sheet .registers .chip))
     (pick (rsOf log) (pick (rwOf log) (passed (p .sheet)) (written (byteOf p log) (p .sheet)))
     (obeyed (byteOf p log) (p .sheet)))
 

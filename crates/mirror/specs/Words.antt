@@ -17,7 +17,7 @@ free time p = leb (p .busy) time
 -- a status read: bit 7 is 1 while busy, bits 6 to 0 are the address
 abbrev pub statusOf : ℕ → Panel → ℕ
 statusOf time p =
-    let n = addressNumber (p .sheet .registers .address) in
+    let n = addressNumber (p .sheet .registers .chip) (p .sheet .registers .address) in
     pick (free time p) n (128 + n)
 
 -- the byte at the address

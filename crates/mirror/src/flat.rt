@@ -73,10 +73,11 @@ pub(crate) fn modes_of(registers: Registers) -> Modes
 }
 
 // The registers put together again.
-pub(crate) fn registers(a: Address, shift: u8, modes: Modes) -> Registers
-    ensures { λ r. ⌜ r ≡ registersWith a shift modes ⌝ }
+pub(crate) fn registers(chip: u8, a: Address, shift: u8, modes: Modes) -> Registers
+    ensures { λ r. ⌜ r ≡ registersWith chip a shift modes ⌝ }
 {
     Registers {
+        chip,
         shift,
         up: modes.up,
         follow: modes.follow,

@@ -25,6 +25,8 @@ use chip::sizes::DISPLAY_SIZE;
 use chip::sizes::PATTERN_SIZE;
 
 pub struct Live {
+    // The chip's number, which no record changes.
+    pub chip: u8,
     // The address: which of the two counts, and both; the one that does not is 0.
     pub patterned: bool,
     pub display: DisplayAddress,
@@ -60,6 +62,7 @@ impl Live {
         let r = s.registers;
         let a = r.address;
         let bare = Live {
+            chip: r.chip,
             patterned: patterned(a),
             display: display_part(a),
             pattern: pattern_part(a),
@@ -105,7 +108,7 @@ impl Live {
         ensures { λ r. ⌜ r ≡ registersOf self ⌝ }
     {
         let m = self.modes;
-        registers(self.address(), self.shift, m)
+        registers(self.chip, self.address(), self.shift, m)
     }
 
     fn half(self) -> Half
@@ -254,6 +257,7 @@ impl Live {
         let a = registers.address;
         let left = self.pass(time, Answer::Taken, byte, used);
         Live {
+            chip: registers.chip,
             patterned: patterned(a),
             display: display_part(a),
             pattern: pattern_part(a),
@@ -269,7 +273,7 @@ impl Live {
         ensures { λ r. ⌜ Shows time self r ⌝ }
     {
         let a = self.address();
-        let n = a.number();
+        let n = a.number(self.chip);
         if self.free(time) { n } else { 128 + n }
     }
 }

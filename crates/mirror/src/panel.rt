@@ -50,11 +50,12 @@ impl Half {
 }
 
 impl Panel {
-    pub fn fresh(reset: u16, long: u16, short: u16) -> Panel
-        ensures { λ r. ⌜ r ≡ freshPanel reset long short ⌝ }
+    // A fresh panel of any chip's number; one of an unknown chip is not sound, and every call refuses it.
+    pub fn fresh(chip: u8, reset: u16, long: u16, short: u16) -> Panel
+        ensures { λ r. ⌜ r ≡ freshPanel chip reset long short ⌝ }
     {
         Panel {
-            sheet: Sheet::fresh(),
+            sheet: Sheet::fresh(chip),
             busy: 0,
             half: Half::Empty,
             times: Times { reset, long, short },

@@ -8,6 +8,7 @@ use crate::answer::Answer;
 use crate::count::raise;
 use crate::panel::Panel;
 use crate::totals::Totals;
+use chip::sizes::ONE_LINE;
 use log::carry::Carry;
 use log::carry::carried;
 use log::flaw::Flaw;
@@ -94,7 +95,7 @@ impl Stream {
             };
         }
         Stream {
-            totals: Totals::start(Panel::fresh(0, 0, 0)),
+            totals: Totals::start(Panel::fresh(ONE_LINE, 0, 0, 0)),
             carry: Carry::empty(),
             over: false,
             given: panel,

@@ -202,7 +202,7 @@ impl Live {
                 if self.back(time) {
                     self.refuse(Answer::Back, 12)
                 } else {
-                    let next = Registers::fresh(display, pattern);
+                    let next = Registers::fresh(self.chip, display, pattern);
                     self.done(next, time, times.reset, 0, 12)
                 }
             }

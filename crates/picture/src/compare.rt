@@ -2,17 +2,20 @@
 ghost use mathlib.Core.Path.{_≡_};
 ghost use Rattle.picture.specs.Compare.{Compares, compareRefusal};
 use crate::frame::COLUMNS;
-use crate::frame::FRAME_SIZE;
-use crate::frame::ROWS;
 use crate::frame::dot_at;
+use crate::frame::frame_size;
+use crate::frame::rows;
+use chip::sizes::known;
 
 pub enum Compared {
     // The first dot, by rows, at which the frames differ.
     At { row: usize, column: usize },
     // No dot differs.
     Same,
-    // A frame of another size.
+    // A frame of another size than the chip's.
     Size,
+    // A chip that is not known.
+    Unknown,
 }
 
 impl Compared {
@@ -24,23 +27,30 @@ impl Compared {
             Compared::At { row: _, column: _ } => 0,
             Compared::Same => 0,
             Compared::Size => 9,
+            Compared::Unknown => 10,
         }
     }
 }
 
-pub fn compare(a: &[u8], b: &[u8]) -> Compared
-    ensures { λ r. ⌜ Compares (now (a .entry)) (now (b .entry)) r ⌝ }
+// Compares two frames of a chip.
+pub fn compare(chip: u8, a: &[u8], b: &[u8]) -> Compared
+    ensures { λ r. ⌜ Compares chip (now (a .entry)) (now (b .entry)) r ⌝ }
 {
-    if a.len() != FRAME_SIZE {
+    if !known(chip) {
+        return Compared::Unknown;
+    }
+    let size = frame_size(chip);
+    if a.len() != size {
         return Compared::Size;
     }
-    if b.len() != FRAME_SIZE {
+    if b.len() != size {
         return Compared::Size;
     }
+    let high = rows(chip);
     let mut found = Compared::Same;
-    'rows: for row in 0..ROWS {
+    'rows: for row in 0..high {
         for column in 0..COLUMNS {
-            if dot_at(a, row, column) != dot_at(b, row, column) {
+            if dot_at(chip, a, row, column) != dot_at(chip, b, row, column) {
                 found = Compared::At { row, column };
                 break 'rows;
             }

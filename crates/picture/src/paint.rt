@@ -2,15 +2,15 @@
 ghost use mathlib.Core.Path.{_≡_};
 ghost use Prim.Native.Nat.{_+_, _≤_, _<_};
 ghost use lib.ListN.{length};
-ghost use Rattle.chip.specs.Sizes.{positions};
+ghost use Rattle.chip.specs.Sizes.{linesOf};
 ghost use Rattle.picture.specs.Pattern.{tall, wide, fontSize, patternsOf};
 ghost use Rattle.picture.specs.Frame.{glass};
 ghost use Rattle.dots.specs.Table.{sum};
-ghost use Rattle.picture.specs.engine.Shown.{PutsCell, PutsLine, PutsRow, rowDot, shapeFrom, shownOf};
+ghost use Rattle.picture.specs.engine.Shown.{PutsCell, PutsLine, PutsPage, PutsRow, rowDot, shapeFrom, shownOf};
 ghost use Rattle.picture.specs.Paint.{Paints, paintRefusal};
-use crate::cursor::position;
-use crate::frame::FRAME_SIZE;
+use crate::cursor::here;
 use crate::frame::clear;
+use crate::frame::frame_size;
 use crate::frame::put_dot;
 use crate::pattern::FONT_SIZE;
 use crate::pattern::FONT_START;
@@ -23,6 +23,7 @@ use crate::pattern::patterns;
 use crate::screen::code_at;
 use chip::sheet::Sheet;
 use chip::sizes::POSITIONS;
+use chip::sizes::lines;
 use mirror::panel::Panel;
 
 const CURSOR_ROW: usize = 7;
@@ -62,24 +63,24 @@ fn shape(own: [[u8; TALL]; PATTERNS], font: &[u8], code: u8) -> [u8; TALL]
     }
 }
 
-// The rows that a position shows.
+// The rows that a position of a line shows.
 fn shown(
     sheet: Sheet,
     own: [[u8; TALL]; PATTERNS],
     font: &[u8],
     dark: bool,
+    line: usize,
     at: usize,
 ) -> [u8; TALL]
-    requires { ⌜ (own ≡ patternsOf (sheet .pattern)) × (length (now font) ≡ fontSize) × (at < positions) ⌝ }
-    ensures { λ r. ⌜ r ≡ shownOf sheet (now (font .entry)) dark at ⌝ }
+    requires { ⌜ (own ≡ patternsOf (sheet .pattern)) × (length (now font) ≡ fontSize) ⌝ }
+    ensures { λ r. ⌜ r ≡ shownOf sheet (now (font .entry)) dark line at ⌝ }
 {
     let r = sheet.registers;
     if !r.on {
         return [0; TALL];
     }
-    let mut rows = shape(own, font, code_at(sheet, at));
-    let a = r.address;
-    if at != position(a, r.shift) {
+    let mut rows = shape(own, font, code_at(sheet, line, at));
+    if !here(r, line, at) {
         return rows;
     }
     if r.blink & dark {
@@ -99,42 +100,63 @@ fn lit_in(dots: u8) -> usize
 }
 
 // Paints a row of a cell, whose leftmost dot is (row, left).
-fn put_row(frame: &mut [u8], row: usize, left: usize, dots: u8) -> usize
-    requires { ⌜ (length (now frame) ≡ glass .size) × (row < glass .rows) × (left + wide ≤ glass .cols) ⌝ }
-    ensures { λ n. ⌜ PutsRow dots row left (now (frame .entry)) (now (frame .exit)) n ⌝ }
+fn put_row(chip: u8, frame: &mut [u8], row: usize, left: usize, dots: u8) -> usize
+    requires { ⌜ (length (now frame) ≡ glass chip .size) × (row < glass chip .rows) × (left + wide ≤ glass chip .cols) ⌝ }
+    ensures { λ n. ⌜ PutsRow chip dots row left (now (frame .entry)) (now (frame .exit)) n ⌝ }
 {
     for c in 0..WIDE {
         let v = (dots >> (WIDE - 1 - c)) & 1;
-        put_dot(frame, row, left + c, v);
+        put_dot(chip, frame, row, left + c, v);
     }
     lit_in(dots)
 }
 
 // Paints a cell, whose upper left dot is (top, left).
-fn put_cell(frame: &mut [u8], top: usize, left: usize, rows: [u8; TALL]) -> usize
-    requires { ⌜ (length (now frame) ≡ glass .size) × (top + tall ≤ glass .rows) × (left + wide ≤ glass .cols) ⌝ }
-    ensures { λ n. ⌜ PutsCell rows top left (now (frame .entry)) (now (frame .exit)) n ⌝ }
+fn put_cell(chip: u8, frame: &mut [u8], top: usize, left: usize, rows: [u8; TALL]) -> usize
+    requires { ⌜ (length (now frame) ≡ glass chip .size) × (top + tall ≤ glass chip .rows) × (left + wide ≤ glass chip .cols) ⌝ }
+    ensures { λ n. ⌜ PutsCell chip rows top left (now (frame .entry)) (now (frame .exit)) n ⌝ }
 {
     let mut lit = 0;
     for i in 0..TALL {
-        lit += put_row(frame, top + i, left, rows[i]);
+        lit += put_row(chip, frame, top + i, left, rows[i]);
     }
     lit
 }
 
-// Paints the line; answers how many of its dots are lit.
-fn put_line(frame: &mut [u8], sheet: Sheet, font: &[u8], dark: bool) -> usize
-    requires { ⌜ (length (now frame) ≡ glass .size) × (length (now font) ≡ fontSize) ⌝ }
-    ensures { λ n. ⌜ PutsLine sheet (now (font .entry)) dark (now (frame .entry)) (now (frame .exit)) n ⌝ }
+// Paints a line; answers how many of its dots are lit.
+fn put_line(
+    frame: &mut [u8],
+    sheet: Sheet,
+    own: [[u8; TALL]; PATTERNS],
+    font: &[u8],
+    dark: bool,
+    line: usize,
+) -> usize
+    requires { ⌜ (length (now frame) ≡ glass (sheet .registers .chip) .size) × (own ≡ patternsOf (sheet .pattern)) × (length (now font) ≡ fontSize) × (line < linesOf (sheet .registers .chip)) ⌝ }
+    ensures { λ n. ⌜ PutsLine sheet (now (font .entry)) dark line (now (frame .entry)) (now (frame .exit)) n ⌝ }
+{
+    let chip = sheet.registers.chip;
+    let mut total = 0;
+    for p in 0..POSITIONS {
+        let rows = shown(sheet, own, font, dark, line, p);
+        total += put_cell(chip, frame, line * TALL, p * WIDE, rows);
+    }
+    total
+}
+
+// Paints every line; answers how many dots are lit.
+fn put_lines(frame: &mut [u8], sheet: Sheet, font: &[u8], dark: bool) -> usize
+    requires { ⌜ (length (now frame) ≡ glass (sheet .registers .chip) .size) × (length (now font) ≡ fontSize) ⌝ }
+    ensures { λ n. ⌜ PutsPage sheet (now (font .entry)) dark (now (frame .entry)) (now (frame .exit)) n ⌝ }
 {
     let memory = sheet.pattern;
     let own = patterns(memory);
-    let mut total = 0;
-    for p in 0..POSITIONS {
-        let rows = shown(sheet, own, font, dark, p);
-        total += put_cell(frame, 0, p * WIDE, rows);
+    let count = lines(sheet.registers.chip);
+    let mut lit = 0;
+    for line in 0..count {
+        lit += put_line(frame, sheet, own, font, dark, line);
     }
-    total
+    lit
 }
 
 // Paints the panel's picture into the frame, with the blink dark or not; answers how many dots are lit. Where it refuses,
@@ -148,10 +170,11 @@ pub fn paint(panel: Panel, font: &[u8], dark: bool, frame: &mut [u8]) -> Painted
     if font.len() != FONT_SIZE {
         return Painted::Size;
     }
-    if frame.len() != FRAME_SIZE {
+    let sheet = panel.sheet;
+    let chip = sheet.registers.chip;
+    if frame.len() != frame_size(chip) {
         return Painted::Size;
     }
-    let sheet = panel.sheet;
-    clear(frame);
-    Painted::Lit(put_line(frame, sheet, font, dark))
+    clear(chip, frame);
+    Painted::Lit(put_lines(frame, sheet, font, dark))
 }

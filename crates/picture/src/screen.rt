@@ -4,24 +4,26 @@ ghost use Rattle.picture.specs.Picture.{codeAt, codesOf};
 use chip::address::DisplayAddress;
 use chip::sheet::Sheet;
 use chip::sizes::POSITIONS;
+use chip::sizes::lines;
 
-// The code that a screen position shows: that of the display address as many further on as the shift says.
-pub fn code_at(sheet: Sheet, at: usize) -> u8
-    ensures { λ r. ⌜ r ≡ codeAt sheet at ⌝ }
+// The code that a position of a line shows: that of the line's display address as many further on as the shift says.
+pub fn code_at(sheet: Sheet, line: usize, at: usize) -> u8
+    ensures { λ r. ⌜ r ≡ codeAt sheet line at ⌝ }
 {
     let registers = sheet.registers;
     let display = sheet.display;
-    let place = (at % POSITIONS + registers.shift as usize) % POSITIONS;
-    DisplayAddress(place as u8).read(&display)
+    let first = line % lines(registers.chip) * POSITIONS;
+    let place = first + (at % POSITIONS + registers.shift as usize) % POSITIONS;
+    DisplayAddress(place as u8).read(registers.chip, &display)
 }
 
-// The codes from the left end of the screen to its right.
-pub fn codes(sheet: Sheet) -> [u8; POSITIONS]
-    ensures { λ r. ⌜ r ≡ codesOf sheet ⌝ }
+// The codes of a line from the left end of the screen to its right.
+pub fn codes(sheet: Sheet, line: usize) -> [u8; POSITIONS]
+    ensures { λ r. ⌜ r ≡ codesOf sheet line ⌝ }
 {
     let mut codes = [0; POSITIONS];
     for at in 0..POSITIONS {
-        codes[at] = code_at(sheet, at);
+        codes[at] = code_at(sheet, line, at);
     }
     codes
 }

@@ -1,6 +1,6 @@
 // Prints everything that a test or a doubtful colleague wants to see of a log: docs/TRACE.md has the print.
 mod answers;
-mod numbers;
+mod frames;
 mod panel_file;
 mod records;
 mod show;
@@ -15,11 +15,12 @@ use desk::bytes::Bytes;
 use desk::bytes::load;
 use desk::input::BLOCK;
 use desk::print::complain;
+use desk::told::told_at;
+use frames::frame_at;
+use frames::second_place;
+use frames::size_at;
 use mirror::panel::Panel;
 use mirror::stream::Stream;
-use numbers::MOST;
-use numbers::size_at;
-use numbers::times_at;
 use panel_file::PANEL_SIZE;
 use panel_file::fits;
 use panel_file::panel_of;
@@ -30,20 +31,21 @@ use show::show_difference;
 use show::show_end;
 use show::show_painting;
 use show::show_run;
-use std::num::wrapping_add_usize;
 
 // The groups of arguments.
 const FONT: usize = 0;
 
-const TIMES: usize = 1;
+const CHIP: usize = 1;
 
-const PANEL: usize = 2;
+const TIMES: usize = 2;
 
-const FRAME: usize = 3;
+const PANEL: usize = 3;
 
-const FRAMES: usize = 4;
+const FRAME: usize = 4;
 
-const RECORDS: usize = 5;
+const FRAMES: usize = 5;
+
+const RECORDS: usize = 6;
 
 // A panel to start from, or none where it could not be had; then a line was written.
 struct Started {
@@ -105,7 +107,7 @@ fn loaded_panel(place: usize, fresh: Panel) -> Started {
         return none;
     }
     if file.len != PANEL_SIZE {
-        complain(b"trace", b"a panel file has 84 bytes");
+        complain(b"trace", b"a panel file has 101 bytes");
         return none;
     }
     let bytes = file.bytes;
@@ -120,10 +122,10 @@ fn loaded_panel(place: usize, fresh: Panel) -> Started {
 }
 
 fn first_panel(places: [usize; GROUPS]) -> Started {
-    let timed = times_at(places[TIMES]);
-    let times = timed.times;
-    let fresh = Panel::fresh(times.reset, times.long, times.short);
-    if !timed.ok {
+    let told = told_at(b"trace", places[CHIP], places[TIMES]);
+    let times = told.times;
+    let fresh = Panel::fresh(told.chip, times.reset, times.long, times.short);
+    if !told.ok {
         return Started {
             ok: false,
             panel: fresh,
@@ -138,34 +140,6 @@ fn first_panel(places: [usize; GROUPS]) -> Started {
     loaded_panel(places[PANEL], fresh)
 }
 
-// A frame to compare, in a file; an empty one where none is named.
-fn frame_at(place: usize) -> Bytes {
-    if place == 0 {
-        return Bytes {
-            ok: true,
-            bytes: io::buffer(),
-            len: 0,
-        };
-    }
-    let file = load(place);
-    if !file.ok {
-        return file;
-    }
-    if file.len as u64 <= MOST {
-        return file;
-    }
-    complain(b"trace", b"a frame to compare has at most 200 bytes");
-    Bytes { ok: false, ..file }
-}
-
-// The place of the second frame to compare.
-fn second_place(place: usize) -> usize {
-    if place == 0 {
-        return 0;
-    }
-    wrapping_add_usize(place, 1)
-}
-
 // The lines of the records, each by a call of its own or out of the stream.
 fn read_all(panel: Panel, alone: bool) -> Done {
     let mut block = [0; BLOCK];
@@ -173,6 +147,12 @@ fn read_all(panel: Panel, alone: bool) -> Done {
         return record_all(panel, &mut block);
     }
     answer_all(Stream::start(panel), &mut block)
+}
+
+fn chip_in(panel: Panel) -> u8 {
+    let sheet = panel.sheet;
+    let registers = sheet.registers;
+    registers.chip
 }
 
 // The lines of the records, then those of the run.
@@ -188,12 +168,13 @@ fn print(panel: Panel, alone: bool, lent: Lent) {
     show_run(run);
     let light = show_painting(b"frame 0", after, font, false, lent.size);
     let dark = show_painting(b"frame 1", after, font, true, lent.size);
+    let chip = chip_in(after);
     if lent.named {
         let a = lent.a;
         let b = lent.b;
-        show_difference(a, b);
+        show_difference(chip, a, b);
     } else {
-        show_difference(light, dark);
+        show_difference(chip, light, dark);
     }
 }
 
@@ -201,13 +182,14 @@ fn print(panel: Panel, alone: bool, lent: Lent) {
 fn arguments() -> Given {
     asked(
         b"trace",
-        b"font FILE, times R L S, panel FILE, frame N, frames A B, records",
+        b"font FILE, chip NAME, times R L S, panel FILE, frame N, frames A B, records",
         b"trace < LOG prints a line for each record, its answer and byte; then the whole panel, its picture\n\
         with the blink light and dark, and the first dot at which these two differ.\n\
         font FILE    1920 bytes: codes 10h to FFh, eight rows each; without it, a trial font\n\
+        chip NAME    6631, one line, or 6635, two lines; without it, 6631\n\
         times R L S  reset, long and short time in microseconds; without it, 10000 1640 40\n\
-        panel FILE   84 bytes: the panel to start from; without it, a fresh one\n\
-        frame N      the size of the frames that are painted, 0 to 200; without it, 80\n\
+        panel FILE   101 bytes: the panel to start from, its chip and times; without it, a fresh one\n\
+        frame N      the size of the frames that are painted, 0 to 200; without it, 80, of two lines 160\n\
         frames A B   two files of at most 200 bytes, to compare in place of the two pictures\n\
         records      every record by a call of its own on the panel; without it, out of the stream\n",
     )
@@ -219,12 +201,13 @@ fn main() {
         return;
     }
     let places = given.places;
-    let size = size_at(places[FRAME]);
-    if !size.ok {
-        return;
-    }
     let started = first_panel(places);
     if !started.ok {
+        return;
+    }
+    let panel = started.panel;
+    let size = size_at(places[FRAME], chip_in(panel));
+    if !size.ok {
         return;
     }
     let font = font_at(places[FONT]);
@@ -239,7 +222,6 @@ fn main() {
     if !b.ok {
         return;
     }
-    let panel = started.panel;
     print(
         panel,
         places[RECORDS] != 0,

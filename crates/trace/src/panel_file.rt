@@ -1,4 +1,4 @@
-// A panel file: 84 bytes, as docs/TRACE.md lays them out.
+// A panel file: 101 bytes, as docs/TRACE.md lays them out.
 ghost use Prim.Native.Nat.{_<_};
 ghost use mathlib.Core.Path.{_≡_};
 ghost use Rattle.log.specs.engine.Reading.{Byte, Num16, Num64};
@@ -15,7 +15,12 @@ use mirror::half::Half;
 use mirror::panel::Panel;
 use mirror::panel::Times;
 
-pub const PANEL_SIZE: usize = 84;
+pub const PANEL_SIZE: usize = 101;
+
+// Where the memories begin.
+const DISPLAY: usize = 1;
+
+const PATTERN: usize = DISPLAY + DISPLAY_SIZE;
 
 // Numbers as a log has them. log's own readers of these ask that the bytes be there, so they cannot be public.
 fn wide(x: u8) -> u64
@@ -26,7 +31,7 @@ fn wide(x: u8) -> u64
 
 // The little-endian number of two bytes at a place.
 fn num16(bytes: [u8; ROOM], at: usize) -> u64
-    requires { ⌜ at < 83 ⌝ }
+    requires { ⌜ at < 100 ⌝ }
     ensures { λ r. ⌜ Num16 bytes at r ⌝ }
 {
     let low = wide(bytes[at]);
@@ -36,7 +41,7 @@ fn num16(bytes: [u8; ROOM], at: usize) -> u64
 
 // The little-endian number of eight bytes at a place.
 fn num64(bytes: [u8; ROOM], at: usize) -> u64
-    requires { ⌜ at < 77 ⌝ }
+    requires { ⌜ at < 94 ⌝ }
     ensures { λ r. ⌜ Num64 bytes at r ⌝ }
 {
     let a = num16(bytes, at);
@@ -50,8 +55,8 @@ fn num64(bytes: [u8; ROOM], at: usize) -> u64
 fn bits_fit(b: [u8; ROOM]) -> bool
     ensures { λ r. ⌜ r ≡ bitsFit b ⌝ }
 {
-    let width = (b[56] == 8) | (b[56] == 4);
-    width & (b[48] < 2) & (b[51] < 2) & (b[52] < 2) & (b[53] < 2) & (b[54] < 2) & (b[55] < 2)
+    let width = (b[73] == 8) | (b[73] == 4);
+    width & (b[65] < 2) & (b[68] < 2) & (b[69] < 2) & (b[70] < 2) & (b[71] < 2) & (b[72] < 2)
 }
 
 // Whether a half's bytes are ones that the types can hold: no field where none waits, no nibble where it is ignored.
@@ -69,7 +74,7 @@ fn half_fits(kind: u8, rs: u8, rw: u8, nibble: u8) -> bool
 pub(crate) fn fits(bytes: [u8; ROOM]) -> bool
     ensures { λ r. ⌜ r ≡ fitsIn bytes ⌝ }
 {
-    bits_fit(bytes) & half_fits(bytes[80], bytes[81], bytes[82], bytes[83])
+    bits_fit(bytes) & half_fits(bytes[97], bytes[98], bytes[99], bytes[100])
 }
 
 fn half_of(kind: u8, rs: bool, rw: bool, nibble: u8) -> Half
@@ -87,7 +92,7 @@ fn display_of(bytes: [u8; ROOM]) -> [u8; DISPLAY_SIZE]
 {
     let mut display = [0u8; DISPLAY_SIZE];
     for i in 0..DISPLAY_SIZE {
-        display[i] = bytes[i];
+        display[i] = bytes[DISPLAY + i];
     }
     display
 }
@@ -97,7 +102,7 @@ fn pattern_of(bytes: [u8; ROOM]) -> [u8; PATTERN_SIZE]
 {
     let mut pattern = [0u8; PATTERN_SIZE];
     for i in 0..PATTERN_SIZE {
-        pattern[i] = bytes[DISPLAY_SIZE + i];
+        pattern[i] = bytes[PATTERN + i];
     }
     pattern
 }
@@ -116,15 +121,16 @@ fn registers_of(bytes: [u8; ROOM]) -> Registers
     ensures { λ r. ⌜ r ≡ registersIn bytes ⌝ }
 {
     Registers {
-        address: address_of(bytes[48], bytes[49]),
-        shift: bytes[50],
-        up: bytes[51] == 1,
-        follow: bytes[52] == 1,
-        on: bytes[53] == 1,
-        cursor: bytes[54] == 1,
-        blink: bytes[55] == 1,
-        eight: bytes[56] == 8,
-        function: bytes[57],
+        chip: bytes[0],
+        address: address_of(bytes[65], bytes[66]),
+        shift: bytes[67],
+        up: bytes[68] == 1,
+        follow: bytes[69] == 1,
+        on: bytes[70] == 1,
+        cursor: bytes[71] == 1,
+        blink: bytes[72] == 1,
+        eight: bytes[73] == 8,
+        function: bytes[74],
     }
 }
 
@@ -138,13 +144,13 @@ pub(crate) fn panel_of(bytes: [u8; ROOM]) -> Panel
             display: display_of(bytes),
             pattern: pattern_of(bytes),
         },
-        busy: num64(bytes, 64),
-        half: half_of(bytes[80], bytes[81] == 1, bytes[82] == 1, bytes[83]),
+        busy: num64(bytes, 81),
+        half: half_of(bytes[97], bytes[98] == 1, bytes[99] == 1, bytes[100]),
         times: Times {
-            reset: num16(bytes, 58) as u16,
-            long: num16(bytes, 60) as u16,
-            short: num16(bytes, 62) as u16,
+            reset: num16(bytes, 75) as u16,
+            long: num16(bytes, 77) as u16,
+            short: num16(bytes, 79) as u16,
         },
-        last: num64(bytes, 72),
+        last: num64(bytes, 89),
     }
 }

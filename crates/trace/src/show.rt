@@ -3,6 +3,9 @@ ghost use mathlib.Core.Path.{_≡_};
 ghost use lib.ListN.{length};
 use chip::address::Address;
 use chip::registers::Registers;
+use chip::sizes::DISPLAY_SIZE;
+use chip::sizes::ONE_LINE;
+use chip::sizes::places;
 use desk::bytes::Bytes;
 use desk::bytes::ROOM;
 use desk::bytes::held;
@@ -86,6 +89,21 @@ fn show_half(half: Half) {
     }
 }
 
+// How many places of display memory are printed: those of the chip of one line, and all of every other number.
+fn shown_places(chip: u8) -> usize {
+    if chip == ONE_LINE {
+        places(chip)
+    } else {
+        DISPLAY_SIZE
+    }
+}
+
+fn show_display(chip: u8, display: [u8; DISPLAY_SIZE]) {
+    let n = held(&display, shown_places(chip));
+    show(b"\ndisplay");
+    show_bytes(b" ", &display[..n]);
+}
+
 fn show_panel(panel: Panel) {
     let sheet = panel.sheet;
     let display = sheet.display;
@@ -94,8 +112,8 @@ fn show_panel(panel: Panel) {
     let half = panel.half;
     show(b"\nsound");
     bit(panel.sound());
-    show(b"\ndisplay");
-    show_bytes(b" ", &display);
+    show_number(b"\nchip ", registers.chip as u64);
+    show_display(registers.chip, display);
     show(b"\npattern");
     show_bytes(b" ", &pattern);
     show_registers(registers);
@@ -181,16 +199,16 @@ fn show_compared(compared: Compared) {
             show_number(b" ", column as u64);
         }
         Compared::Same => show(b"differ none"),
-        Compared::Size => show_number(b"differ refused ", compared.refusal() as u64),
+        _ => show_number(b"differ refused ", compared.refusal() as u64),
     }
     show(b"\n");
 }
 
-// The comparison of two frames.
-pub(crate) fn show_difference(a: Bytes, b: Bytes) {
+// The comparison of two frames of a chip.
+pub(crate) fn show_difference(chip: u8, a: Bytes, b: Bytes) {
     let first = a.bytes;
     let second = b.bytes;
     let i = held(&first, a.len);
     let j = held(&second, b.len);
-    show_compared(compare(&first[..i], &second[..j]));
+    show_compared(compare(chip, &first[..i], &second[..j]));
 }

@@ -1,32 +1,16 @@
-// The dots of a frame, as lines for a terminal. Each function that puts some on a page answers where the next byte goes.
+// The dots of a chip's frame, as lines for a terminal. Each function that puts some on a page answers where the next byte goes.
 ghost use Prim.Native.Nat.{_<_};
 ghost use mathlib.Core.Path.{_≡_};
 ghost use Rattle.desk.specs.Page.{Puts};
 ghost use Rattle.picture.specs.Frame.{glass};
-ghost use Rattle.wall.specs.Draw.{columnBytes, lineBytes, markOf, pairOf, pictureOf};
+ghost use Rattle.wall.specs.Draw.{columnBytes, lineBytes, markOf, pairOf};
 ghost use Rattle.wall.specs.engine.Lines.{RowsShown};
-use desk::bytes::Bytes;
-use desk::bytes::held;
 use desk::page::PAGE;
 use desk::page::put;
 use desk::page::write_out;
-use mirror::panel::Panel;
 use picture::frame::COLUMNS;
-use picture::frame::FRAME_SIZE;
-use picture::frame::ROWS;
 use picture::frame::lit_at;
-use picture::paint::paint;
-
-// The frame of a panel; no dot is lit where the painter refuses.
-pub(crate) fn painted(panel: Panel, font: Bytes, dark: bool) -> [u8; FRAME_SIZE]
-    ensures { λ r. ⌜ r ≡ pictureOf panel font dark ⌝ }
-{
-    let dots = font.bytes;
-    let n = held(&dots, font.len);
-    let mut frame = [0u8; FRAME_SIZE];
-    paint(panel, &dots[..n], dark, &mut frame);
-    frame
-}
+use picture::frame::rows;
 
 fn mark(lit: bool) -> u8
     ensures { λ r. ⌜ r ≡ markOf lit ⌝ }
@@ -54,17 +38,18 @@ fn put_pair(page: &mut [u8; PAGE], at: usize, upper: bool, lower: bool) -> usize
 fn put_column(
     page: &mut [u8; PAGE],
     at: usize,
-    frame: [u8; FRAME_SIZE],
+    chip: u8,
+    frame: &[u8],
     row: usize,
     column: usize,
     pairs: bool,
 ) -> usize
-    requires { ⌜ row < glass .rows ⌝ }
-    ensures { λ r. ⌜ Puts (columnBytes pairs frame row column) (now (page .entry)) at (now (page .exit)) r ⌝ }
+    requires { ⌜ row < glass chip .rows ⌝ }
+    ensures { λ r. ⌜ Puts (columnBytes chip pairs (now (frame .entry)) row column) (now (page .entry)) at (now (page .exit)) r ⌝ }
 {
-    let upper = lit_at(&frame, row, column);
+    let upper = lit_at(chip, frame, row, column);
     if pairs {
-        let lower = lit_at(&frame, row + 1, column);
+        let lower = lit_at(chip, frame, row + 1, column);
         return put_pair(page, at, upper, lower);
     }
     put(page, at, &[mark(upper)])
@@ -74,16 +59,17 @@ fn put_column(
 fn put_line(
     page: &mut [u8; PAGE],
     at: usize,
-    frame: [u8; FRAME_SIZE],
+    chip: u8,
+    frame: &[u8],
     row: usize,
     pairs: bool,
 ) -> usize
-    requires { ⌜ row < glass .rows ⌝ }
-    ensures { λ r. ⌜ Puts (lineBytes pairs frame row) (now (page .entry)) at (now (page .exit)) r ⌝ }
+    requires { ⌜ row < glass chip .rows ⌝ }
+    ensures { λ r. ⌜ Puts (lineBytes chip pairs (now (frame .entry)) row) (now (page .entry)) at (now (page .exit)) r ⌝ }
 {
     let mut end = put(page, at, b"|");
     for column in 0..COLUMNS {
-        end = put_column(page, end, frame, row, column, pairs);
+        end = put_column(page, end, chip, frame, row, column, pairs);
     }
     put(page, end, b"|\n")
 }
@@ -104,13 +90,14 @@ fn rows_shown(pairs: bool) -> usize
 }
 
 // One line for each row of dots, or for each two.
-pub(crate) fn draw(frame: [u8; FRAME_SIZE], pairs: bool) {
+pub(crate) fn draw(chip: u8, frame: &[u8], pairs: bool) {
     let mut page = [0u8; PAGE];
     let mut end = put_edge(&mut page, 0);
     let shown = rows_shown(pairs);
+    let high = rows(chip);
     let mut row = 0;
-    while row < ROWS {
-        end = put_line(&mut page, end, frame, row, pairs);
+    while row < high {
+        end = put_line(&mut page, end, chip, frame, row, pairs);
         row += shown;
     }
     end = put_edge(&mut page, end);

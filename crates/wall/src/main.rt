@@ -3,13 +3,11 @@ mod bitmap;
 mod codes;
 mod draw;
 mod font;
+mod glass;
 mod watch;
 
-use bitmap::write_bitmap;
-use codes::show_codes;
-use codes::show_cursor;
-use codes::show_text;
 use desk::arguments::GROUPS;
+use desk::arguments::Given;
 use desk::arguments::asked;
 use desk::bytes::Bytes;
 use desk::bytes::load;
@@ -17,17 +15,13 @@ use desk::input::BLOCK;
 use desk::number::Number;
 use desk::number::number_at;
 use desk::print::complain;
-use desk::times::LONG;
-use desk::times::RESET;
-use desk::times::SHORT;
-use draw::draw;
-use draw::painted;
+use desk::told::Told;
+use desk::told::told_at;
+use glass::Wanted;
+use glass::show_glass;
 use mirror::panel::Panel;
 use mirror::stream::Stream;
-use picture::cursor::shown;
-use picture::frame::FRAME_SIZE;
 use picture::pattern::FONT_SIZE;
-use picture::screen::codes;
 use watch::FOREVER;
 use watch::watch_all;
 
@@ -41,6 +35,10 @@ const DARK: usize = 2;
 const AT: usize = 3;
 
 const FONT: usize = 4;
+
+const CHIP: usize = 5;
+
+const TIMES: usize = 6;
 
 // The time to stop at.
 fn time_at(place: usize) -> Number {
@@ -73,53 +71,55 @@ fn font_at(place: usize) -> Bytes {
     Bytes { ok: false, ..file }
 }
 
-fn show_glass(frame: [u8; FRAME_SIZE], panel: Panel, ascii: bool) {
-    let sheet = panel.sheet;
-    let registers = sheet.registers;
-    draw(frame, !ascii);
-    let line = codes(sheet);
-    show_text(line);
-    show_codes(line);
-    show_cursor(shown(registers));
-}
-
 // Watches the log up to the time, then shows what the glass did.
-fn show_all(places: [usize; GROUPS], until: u64, font: Bytes) {
+fn show_all(places: [usize; GROUPS], told: Told, until: u64, font: Bytes) {
     let mut block = [0; BLOCK];
-    let start = Stream::start(Panel::fresh(RESET, LONG, SHORT));
-    let seen = watch_all(start, until, &mut block);
+    let times = told.times;
+    let fresh = Panel::fresh(told.chip, times.reset, times.long, times.short);
+    let seen = watch_all(Stream::start(fresh), until, &mut block);
     if seen.failed {
         return;
     }
     let stream = seen.stream;
     let run = stream.end();
     let panel = run.panel;
-    let frame = painted(panel, font, places[DARK] != 0);
-    if places[PBM] != 0 {
-        write_bitmap(frame);
-    } else {
-        show_glass(frame, panel, places[ASCII] != 0);
-    }
+    let wanted = Wanted {
+        bitmap: places[PBM] != 0,
+        marks: places[ASCII] != 0,
+        dark: places[DARK] != 0,
+    };
+    show_glass(panel, font, wanted);
+}
+
+// What was asked for.
+fn arguments() -> Given {
+    asked(
+        b"wall",
+        b"ascii, pbm, dark, at TIME, font FILE, chip NAME, times R L S",
+        b"wall < LOG draws what the glass showed at the end of the log: 8 rows of 80 dots, of two lines 16, two\n\
+        to a line; then the sixteen codes that each line shows, as text and as numbers, and the cursor's position.\n\
+        ascii        a line for each row of dots, of # and .\n\
+        pbm          a portable bitmap of the dots, and nothing else\n\
+        dark         the blink is dark; without it, light\n\
+        at TIME      the glass at this time, in microseconds, at most 281474976710656\n\
+        font FILE    1920 bytes: codes 10h to FFh, eight rows each; without it, a font of its own\n\
+        chip NAME    6631, one line, or 6635, two lines; without it, 6631\n\
+        times R L S  reset, long and short time in microseconds; without it, 10000 1640 40\n",
+    )
 }
 
 fn main() {
-    let given = asked(
-        b"wall",
-        b"ascii, pbm, dark, at TIME, font FILE",
-        b"wall < LOG draws what the glass showed at the end of the log: 8 rows of 80 dots, two to\n\
-        a line, then the sixteen codes shown, as text and as numbers, and the cursor's position.\n\
-        ascii      a line for each row of dots, of # and .\n\
-        pbm        a portable bitmap of the dots, and nothing else\n\
-        dark       the blink is dark; without it, light\n\
-        at TIME    the glass at this time, in microseconds, at most 281474976710656\n\
-        font FILE  1920 bytes: codes 10h to FFh, eight rows each; without it, a font of its own\n",
-    );
+    let given = arguments();
     if !given.ok {
         return;
     }
     let places = given.places;
     if (places[ASCII] != 0) & (places[PBM] != 0) {
         complain(b"wall", b"takes ascii or pbm, not both");
+        return;
+    }
+    let told = told_at(b"wall", places[CHIP], places[TIMES]);
+    if !told.ok {
         return;
     }
     let until = time_at(places[AT]);
@@ -130,5 +130,5 @@ fn main() {
     if !font.ok {
         return;
     }
-    show_all(places, until.value, font);
+    show_all(places, told, until.value, font);
 }

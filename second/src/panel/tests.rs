@@ -9,7 +9,7 @@ const STATUS_READ: u8 = 2;
 const DATA_READ: u8 = 3;
 
 fn fresh() -> Panel {
-    Panel::fresh(Times::USUAL)
+    Panel::fresh(Chip::ONE_LINE, Times::USUAL)
 }
 
 /// Number and bus byte of the answer to one transfer.

@@ -4,7 +4,7 @@
 use super::{Habits, Sender};
 use crate::chip::Width;
 use crate::log::{self, TIME_LIMIT};
-use crate::panel::{Panel, Times};
+use crate::panel::Panel;
 use crate::random::Random;
 
 /// What a scene sets, so that none is left to chance.
@@ -14,20 +14,19 @@ pub struct Scene {
     pub shift: u8,
     /// D, C and B as bits 2, 1 and 0.
     pub screen: u8,
-    /// The sixteen codes from here on are written.
+    /// The codes from here on are written, sixteen a line.
     pub first_code: u8,
     /// The cursor's address instruction, into either memory.
     pub cursor: u8,
 }
 
-/// A log of at least `target` records from a fresh panel; the last scene is
-/// the one given.
-pub fn send_glass(random: &mut Random, target: usize, last: Scene) -> Vec<u8> {
+/// A log of at least `target` records, sent to this fresh panel; the last scene
+/// is the one given.
+pub fn send_glass(random: &mut Random, panel: Panel, target: usize, last: Scene) -> Vec<u8> {
     let habits = Habits { patient: 100, tearing: 0, faulty: random.pick(&[0, 3, 15]), stubborn: false };
-    let panel = Panel::fresh(Times::USUAL);
     let mut sender =
         Sender { random, panel, believed: Width::Eight, habits, log: Vec::new(), sent: 0, leaps: false };
-    sender.begin_somewhere();
+    sender.begin_somewhere(target);
     while sender.sent < target {
         sender.phrase();
         if sender.random.chance(30) {
@@ -52,10 +51,11 @@ fn any_scene(random: &mut Random) -> Scene {
 }
 
 impl Sender<'_> {
-    /// Often not at time 0, and at times near the last there is.
-    fn begin_somewhere(&mut self) {
+    /// Often not at time 0, and at times near the last there is, where a long
+    /// log has no room.
+    fn begin_somewhere(&mut self, target: usize) {
         let time = match self.random.below(8) {
-            0 => TIME_LIMIT - 1_000_000,
+            0 if target < 1_000 => TIME_LIMIT - 1_000_000,
             1 => self.random.below(TIME_LIMIT >> 1),
             2..=4 => 11_520_000_000,
             _ => 0,
@@ -72,8 +72,8 @@ impl Sender<'_> {
         }
         self.instruct(0x06);
         self.instruct(0x02);
-        for n in 0..16 {
-            self.write(scene.first_code.wrapping_add(n));
+        for n in 0..self.panel.sheet.chip.places() {
+            self.write(scene.first_code.wrapping_add(n as u8));
         }
         self.shift_by(scene.shift);
         self.instruct(scene.cursor);

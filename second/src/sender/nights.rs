@@ -7,7 +7,7 @@
 use super::{torn, Habits, Sender};
 use crate::chip::Width;
 use crate::log::{self, TIME_LIMIT};
-use crate::panel::{Panel, Times};
+use crate::panel::Panel;
 use crate::random::Random;
 
 /// Bytes that the chip is to ignore, or to take, one after the other.
@@ -25,8 +25,8 @@ struct Nights<'a> {
     noise: u64,
 }
 
-/// A log of at least `target` records, sent to a fresh panel.
-pub fn send_nights(random: &mut Random, target: usize) -> Vec<u8> {
+/// A log of at least `target` records, sent to this fresh panel.
+pub fn send_nights(random: &mut Random, panel: Panel, target: usize) -> Vec<u8> {
     let habits = Habits {
         patient: random.pick(&[30, 60, 90]),
         tearing: 0,
@@ -35,7 +35,7 @@ pub fn send_nights(random: &mut Random, target: usize) -> Vec<u8> {
     };
     let sender = Sender {
         random,
-        panel: Panel::fresh(Times::USUAL),
+        panel,
         believed: Width::Eight,
         habits,
         log: Vec::new(),

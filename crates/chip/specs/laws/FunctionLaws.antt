@@ -16,23 +16,24 @@ use Rattle.chip.specs.declared.sheet.Sheet.{Sheet}
 forgetting : (f : Sheet → Sheet) → ((s : Sheet) → bitless (f (bitless s)) ≡ bitless (f s)) → Regardless f
 forgetting f h s t e = sym (h s) ∙ ap (λ x. bitless (f x)) e ∙ h t
 
+-- forgetting them before an instruction changes nothing else of what comes of it
+forgotten : (i : Instruction) (s : Sheet) → bitless (acted i (bitless s)) ≡ bitless (acted i s)
+forgotten Nothing s = refl
+forgotten Clear s = refl
+forgotten Home s = refl
+forgotten (Entry up follow) s = refl
+forgotten (Screen on cursor blink) s = refl
+forgotten (Move up) s = refl
+forgotten (Shift left) s = refl
+forgotten (Function eight bits) s = refl
+forgotten (Set a) s = refl
+
 pub acted-regardless : (i : Instruction) → Regardless (acted i)
-acted-regardless i = forgetting (acted i) (by i)
-  where
-    by : (i : Instruction) (s : Sheet) → bitless (acted i (bitless s)) ≡ bitless (acted i s)
-    by Nothing s = refl
-    by Clear s = refl
-    by Home s = refl
-    by (Entry up follow) s = refl
-    by (Screen on cursor blink) s = refl
-    by (Move up) s = refl
-    by (Shift left) s = refl
-    by (Function eight bits) s = refl
-    by (Set a) s = refl
+acted-regardless i = forgetting (acted i) (forgotten i)
 
 -- every code
 pub obeyed-regardless : (code : ℕ) → Regardless (obeyed code)
-obeyed-regardless code = acted-regardless (decoded code)
+obeyed-regardless code = forgetting (obeyed code) (λ s. forgotten (decoded (s .registers .chip) code) s)
 
 -- a data write
 pub written-regardless : (byte : ℕ) → Regardless (written byte)

@@ -7,8 +7,9 @@ use native.Mathlib.Omega.{arith}
 use native.Mathlib.Nat.{mod-lt, mod-mod}
 use lib.ListN.{length, getD, set}
 use lib.Seq.{getD-set-same, getD-set-other}
-use Rattle.chip.specs.Sizes.{displaySize, patternSize, rowEnd}
+use Rattle.chip.specs.Sizes.{placesOf, displaySize, patternSize, rowEnd}
 use Rattle.chip.specs.Address.{readDisplay, writtenDisplay, readPattern, writtenPattern, addressNumber}
+use Rattle.chip.specs.laws.SizesLaws.{places}
 use Rattle.chip.specs.Step.{homed, cleared, entered, screenSet, stepped, shifted, functionSet, addressSet, storedAt, followed, writtenAt, written, passed}
 use Rattle.chip.specs.declared.address.DisplayAddress.{DisplayAddress}
 use Rattle.chip.specs.declared.address.PatternAddress.{PatternAddress}
@@ -108,8 +109,8 @@ back : (n a v : ℕ) (m : List ℕ) → 0 < n → n ≤ length m → getD (set m
 back n a v m z h = getD-set-same m (a % n) v 0 (omega (arith, mod-lt a z))
 
 -- what was just written reads back: all of a byte in display memory, the low five bits in pattern memory
-pub display-back : (d : DisplayAddress) (byte : ℕ) (m : List ℕ) → displaySize ≤ length m → readDisplay d (writtenDisplay d byte m) ≡ byte
-display-back d byte m h = back displaySize (d .0) byte m (omega arith) h
+pub display-back : (chip : ℕ) (d : DisplayAddress) (byte : ℕ) (m : List ℕ) → displaySize ≤ length m → readDisplay chip d (writtenDisplay chip d byte m) ≡ byte
+display-back chip d byte m h = back (placesOf chip) (d .0) byte m (places chip .some) (omega (arith, h, places chip .fits))
 
 pub pattern-back : (p : PatternAddress) (byte : ℕ) (m : List ℕ) → patternSize ≤ length m → readPattern p (writtenPattern p byte m) ≡ byte % rowEnd
 pattern-back p byte m h = ap (λ x. x % rowEnd) (back patternSize (p .0) (byte % rowEnd) m (omega arith) h) ∙ mod-mod byte rowEnd
@@ -118,8 +119,8 @@ pattern-back p byte m h = ap (λ x. x % rowEnd) (back patternSize (p .0) (byte %
 others : (part : ℕ → ℕ) (n a b v : ℕ) (m : List ℕ) → (b % n ≡ a % n → ⊥) → part (getD (set m (a % n) v) (b % n) 0) ≡ part (getD m (b % n) 0)
 others part n a b v m d = ap part (getD-set-other m (a % n) (b % n) v 0 d)
 
-pub display-others : (d e : DisplayAddress) (byte : ℕ) (m : List ℕ) → (e .0 % displaySize ≡ d .0 % displaySize → ⊥) → readDisplay e (writtenDisplay d byte m) ≡ readDisplay e m
-display-others d e byte m n = others (λ x. x) displaySize (d .0) (e .0) byte m n
+pub display-others : (chip : ℕ) (d e : DisplayAddress) (byte : ℕ) (m : List ℕ) → (e .0 % placesOf chip ≡ d .0 % placesOf chip → ⊥) → readDisplay chip e (writtenDisplay chip d byte m) ≡ readDisplay chip e m
+display-others chip d e byte m n = others (λ x. x) (placesOf chip) (d .0) (e .0) byte m n
 
 pub pattern-others : (p q : PatternAddress) (byte : ℕ) (m : List ℕ) → (q .0 % patternSize ≡ p .0 % patternSize → ⊥) → readPattern q (writtenPattern p byte m) ≡ readPattern q m
 pattern-others p q byte m n = others (λ x. x % rowEnd) patternSize (p .0) (q .0) (byte % rowEnd) m n
@@ -128,6 +129,6 @@ pattern-others p q byte m n = others (λ x. x % rowEnd) patternSize (p .0) (q .0
 round-small : (n a : ℕ) → 0 < n → n ≤ 128 → a % n < 128
 round-small n a z h = omega (arith, h, mod-lt a z)
 
-pub number-small : (a : Address) → addressNumber a < 128
-number-small (Display d) = round-small displaySize (d .0) (omega arith) (omega arith)
-number-small (Pattern p) = round-small patternSize (p .0) (omega arith) (omega arith)
+pub number-small : (chip : ℕ) (a : Address) → addressNumber chip a < 128
+number-small chip (Display d) = round-small (placesOf chip) (d .0) (places chip .some) (omega (arith, places chip .fits))
+number-small chip (Pattern p) = round-small patternSize (p .0) (omega arith) (omega arith)

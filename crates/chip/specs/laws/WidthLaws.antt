@@ -6,7 +6,7 @@ use native.Mathlib.Omega.{arith}
 use lib.Dec.{ltb}
 use borrow.Author.Tests.{ltb-false, le-ltb}
 use Rattle.laws.specs.Pick.{pick}
-use Rattle.chip.specs.Sizes.{displaySize, patternSize, functionEnd}
+use Rattle.chip.specs.Sizes.{placesOf, patternSize, functionEnd}
 use Rattle.chip.specs.Address.{display, pattern}
 use Rattle.chip.specs.Instruction.{isSet, unset, decoded}
 use Rattle.chip.specs.Step.{acted, obeyed, writtenAt, written}
@@ -25,8 +25,8 @@ either : (b : Bool) {x y : Instruction} → Keeps x → Keeps y → Keeps (pick 
 either true k l = k
 either false k l = l
 
-low-keeps : (code : ℕ) → ltb code 0x20 ≡ true → Keeps (decoded code)
-low-keeps code e =
+low-keeps : (chip code : ℕ) → ltb code 0x20 ≡ true → Keeps (decoded chip code)
+low-keeps chip code e =
     rw e
     (either (ltb code 0x01) (keeps Nothing (λ s. refl))
     (either (ltb code 0x02) (keeps Clear (λ s. refl))
@@ -36,10 +36,10 @@ low-keeps code e =
     (either (ltb code 0x18) (keeps (Move (isSet 4 code)) (λ s. refl))
     (keeps (Shift (unset 4 code)) (λ s. refl))))))))
 
-high-code : (code : ℕ) → 0x20 ≤ code →
-    decoded code ≡
-    pick (ltb code 0x40) (Function (isSet 0x10 code) (code % functionEnd)) (pick (ltb code 0x80) (Set (Pattern (pattern (code % patternSize)))) (Set (Display (display (code % displaySize)))))
-high-code code h =
+high-code : (chip code : ℕ) → 0x20 ≤ code →
+    decoded chip code ≡
+    pick (ltb code 0x40) (Function (isSet 0x10 code) (code % functionEnd)) (pick (ltb code 0x80) (Set (Pattern (pattern (code % patternSize)))) (Set (Display (display (code % placesOf chip)))))
+high-code chip code h =
     rw (le-ltb code 0x01 (omega arith), le-ltb code 0x02 (omega arith), le-ltb code 0x04 (omega arith), le-ltb code 0x08 (omega arith), le-ltb code 0x10 (omega arith), le-ltb code 0x18 (omega arith), le-ltb code 0x20 h)
 
 pub obeyed-width : (code : ℕ) (s : Sheet) →
@@ -51,14 +51,14 @@ obeyed-width code s = by (ltb code 0x20) refl where
   kept : {i : Instruction} → Keeps i → acted i s .registers .eight ≡ eight
   kept (keeps i k) = k s
 
-  high : (a b : Bool) → acted (pick a (Function (isSet 0x10 code) (code % functionEnd)) (pick b (Set (Pattern (pattern (code % patternSize)))) (Set (Display (display (code % displaySize)))))) s .registers .eight ≡ pick a (isSet 0x10 code) eight
+  high : (a b : Bool) → acted (pick a (Function (isSet 0x10 code) (code % functionEnd)) (pick b (Set (Pattern (pattern (code % patternSize)))) (Set (Display (display (code % placesOf (s .registers .chip))))))) s .registers .eight ≡ pick a (isSet 0x10 code) eight
   high true b = refl
   high false true = refl
   high false false = refl
 
   by : (b : Bool) → ltb code 0x20 ≡ b → obeyed code s .registers .eight ≡ pick b eight (pick (ltb code 0x40) (isSet 0x10 code) eight)
-  by true e = kept (low-keeps code e)
-  by false e = ap (λ i. acted i s .registers .eight) (high-code code (ltb-false code 0x20 e)) ∙ high (ltb code 0x40) (ltb code 0x80)
+  by true e = kept (low-keeps (s .registers .chip) code e)
+  by false e = ap (λ i. acted i s .registers .eight) (high-code (s .registers .chip) code (ltb-false code 0x20 e)) ∙ high (ltb code 0x40) (ltb code 0x80)
 
 pub written-width : (byte : ℕ) (s : Sheet) → written byte s .registers .eight ≡ s .registers .eight
 written-width byte s = by (s .registers .address) where

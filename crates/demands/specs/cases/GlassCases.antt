@@ -1,9 +1,9 @@
--- THE TABLE OF PICTURES (document 01, "The picture"): whole frames, the places of codes and of the cursor, comparisons. The frames were worked out from the
+-- THE TABLE OF PICTURES (document 01, "The picture"; of two lines, document 02, wish 1): whole frames, the places of codes and of the cursor, comparisons. The frames were worked out from the
 -- paper by a short program apart from these definitions, which goes over all dots and tells of each whether it is lit.
-use Prim.Native.Nat.{ℕ, zero, suc, _+_, _*_, _%_}
+use Prim.Native.Nat.{ℕ, zero, suc, _+_, _-_, _*_, _%_}
 use mathlib.Core.Path.{refl}
 use mathlib.Core.Bool.{Bool, true, false}
-use mathlib.Core.List.{List, [], _∷_}
+use mathlib.Core.List.{List, [], _∷_, _++_}
 use lib.ListN.{replicate}
 use Rattle.dots.specs.Bit.{pack}
 use Rattle.dots.specs.First.{first, firstDot}
@@ -11,16 +11,16 @@ use Rattle.dots.specs.Landing.{dotsFrame, countOf}
 use Rattle.dots.specs.Table.{table, sum}
 use Rattle.chip.specs.declared.address.Address.{Address}
 use Rattle.picture.specs.Compare.{comparedOf}
-use Rattle.picture.specs.Cursor.{positionOf}
+use Rattle.picture.specs.Cursor.{lineOf, positionOf}
 use Rattle.picture.specs.Paint.{frameAfter, paintedOf}
 use Rattle.picture.specs.Picture.{codeAt, lit}
 use Rattle.picture.specs.declared.compare.Compared.{Compared}
-use Rattle.picture.specs.declared.compare.Compared.the-variants.{At, Same, Size}
+use Rattle.picture.specs.declared.compare.Compared.the-variants.{At, Same, Size, Unknown}
 use Rattle.picture.specs.declared.paint.Painted.{Painted}
 use Rattle.picture.specs.declared.paint.Painted.the-variants as painting
 use Rattle.mirror.specs.declared.half.Half.the-variants.{Empty}
 use Rattle.mirror.specs.declared.panel.Panel.{Panel}
-use Rattle.demands.specs.cases.RowCases.{Hold, recording, shows, draws, regs, codes, dots, with, panelWith}
+use Rattle.demands.specs.cases.RowCases.{Hold, recording, shows, draws, regs, regsOf, codes, bothLines, dots, with, panelWith, panelOnTwo}
 
 -- what computes when a frame is painted or compared
 unfoldable pub picturing : ℕ
@@ -37,7 +37,8 @@ font = glyphs 1_920 0
 
 -- display memory with the codes at the edges: 10h and FFh of the font, 0Fh and others of each pattern
 abbrev edges : List ℕ
-edges = 0x10 ∷ 0xff ∷ 0x0f ∷ 0x0a ∷ 0x05 ∷ 0x00 ∷ 0x41 ∷ 0x11 ∷ 0xfe ∷ 0x80 ∷ 0x7f ∷ 0x20 ∷ 0x0d ∷ 0x02 ∷ 0x1f ∷ 0x0e ∷ []
+edges =
+    (0x10 ∷ 0xff ∷ 0x0f ∷ 0x0a ∷ 0x05 ∷ 0x00 ∷ 0x41 ∷ 0x11 ∷ 0xfe ∷ 0x80 ∷ 0x7f ∷ 0x20 ∷ 0x0d ∷ 0x02 ∷ 0x1f ∷ 0x0e ∷ []) ++ replicate 16 0x20
 
 -- address, shift, D, C, B; the Function Set bits are all set, and show nothing
 abbrev glass : Address → ℕ → ℕ → ℕ → ℕ → Panel
@@ -103,6 +104,52 @@ pub pictures-computed : Hold painted pictures
 unfolding picturing
 pictures-computed = refl
 
+-- TWO LINES with a font that is blank: address, shift, D, C, B; both lines blank but for the codes given
+abbrev pane : Address → ℕ → ℕ → ℕ → ℕ → List ℕ → Panel
+pane address shift d c b display = panelWith (regsOf 35 (regs address shift 0 1 d c b 8 15)) display dots 900 Empty 800
+
+abbrev blankFont : List ℕ
+blankFont = replicate 1_920 0
+
+-- n bytes of 0
+abbrev none : ℕ → List ℕ
+none n = replicate n 0
+
+-- the same cell in every one of n rows of ten bytes: two bytes from the place on
+abbrev column : ℕ → ℕ → ℕ → ℕ → List ℕ
+column zero at a b = []
+column (suc n) at a b = none at ++ (a ∷ b ∷ none (8 - at)) ++ column n at a b
+
+-- 80 bytes are a line; columns 15 to 19 are the lowest bit of byte 1 and the upper four of byte 2 of a row
+abbrev picturesOnTwo : List (Painting × (Painted × List ℕ))
+picturesOnTwo =
+    -- pattern address 13h: the cursor on line 1 at position 3, in row 15; as address 13h of display memory; and address 03h on line 0, in row 7
+    ((pane (draws 0x13) 0 1 1 0 (replicate 32 0x20), blankFont, true, replicate 160 0xa5), (painting.Lit 5, none 151 ++ (0x01 ∷ 0xf0 ∷ none 7)))
+    ∷ ((pane (shows 0x13) 0 1 1 0 (replicate 32 0x20), blankFont, true, replicate 160 0xa5), (painting.Lit 5, none 151 ++ (0x01 ∷ 0xf0 ∷ none 7)))
+    ∷ ((pane (shows 0x03) 0 1 1 0 (replicate 32 0x20), blankFont, true, replicate 160 0xa5), (painting.Lit 5, none 71 ++ (0x01 ∷ 0xf0 ∷ none 87)))
+    -- the blink at address 15h, shift 2: line 1, position 3, in its eight rows alone
+    ∷ ((pane (shows 0x15) 2 1 0 1 (replicate 32 0x20), blankFont, true, replicate 160 0xa5), (painting.Lit 40, none 80 ++ column 8 1 0x01 0xf0))
+    -- pattern 1 at place 10h, whose rows are 31, 10, 21, 0, 11, 22, 1 and 12: with a shift of 1 on line 1 at position 15, columns 75 to 79
+    ∷ (
+      (pane (shows 0) 1 1 0 0 (with 16 0x01 (replicate 32 0x20)), blankFont, true, replicate 160 0xa5),
+      (painting.Lit 19, none 89 ++ (0x1f ∷ none 9) ++ (0x0a ∷ none 9) ++ (0x15 ∷ none 9) ++ (0x00 ∷ none 9) ++ (0x0b ∷ none 9) ++ (0x16 ∷ none 9) ++ (0x01 ∷ none 9) ++ (0x0c ∷ [])),
+    )
+    -- and at place 00h with the same shift on line 0 at position 15
+    ∷ (
+      (pane (shows 0) 1 1 0 0 (with 0 0x01 (replicate 32 0x20)), blankFont, true, replicate 160 0xa5),
+      (painting.Lit 19, none 9 ++ (0x1f ∷ none 9) ++ (0x0a ∷ none 9) ++ (0x15 ∷ none 9) ++ (0x00 ∷ none 9) ++ (0x0b ∷ none 9) ++ (0x16 ∷ none 9) ++ (0x01 ∷ none 9) ++ (0x0c ∷ none 80)),
+    )
+    -- a frame of the other chip's size
+    ∷ ((pane (shows 0) 1 1 0 0 (replicate 32 0x20), blankFont, true, replicate 80 0xa5), (painting.Size, replicate 80 0xa5))
+    ∷ ((glass (shows 9) 6 1 1 0, font, true, replicate 160 0xa5), (painting.Size, replicate 160 0xa5))
+    -- a chip that is not known: not sound, before any size
+    ∷ ((panelWith (regsOf 6 (regs (shows 9) 6 0 1 1 1 0 8 15)) edges dots 900 Empty 800, font, true, replicate 160 0xa5), (painting.Unsound, replicate 160 0xa5))
+    ∷ []
+
+pub pictures-on-two-computed : Hold painted picturesOnTwo
+unfolding picturing
+pictures-on-two-computed = refl
+
 -- Refused: a frame not of 80 bytes, a font not of 1,920, a panel that is not sound, which comes first. The frame lent stays
 abbrev refused : Panel → List ℕ → List ℕ → Painted → Painting × (Painted × List ℕ)
 refused given glyphs frame answer = ((given, glyphs, true, frame), (answer, frame))
@@ -126,15 +173,39 @@ refusals-computed = refl
 
 -- screen position p shows display address (p + shift) mod 16: shift, position; code
 abbrev shown : ℕ × ℕ → ℕ
-shown p = codeAt (panelWith (regs (shows 9) (p .0) 0 1 1 1 1 8 5) codes dots 900 Empty 800 .sheet) (p .1)
+shown p = codeAt (panelWith (regs (shows 9) (p .0) 0 1 1 1 1 8 5) codes dots 900 Empty 800 .sheet) 0 (p .1)
 
 pub shown-computed : Hold shown (((0, 0), 0xf0) ∷ ((0, 15), 0x0f) ∷ ((6, 0), 0x96) ∷ ((6, 9), 0x0f) ∷ ((6, 10), 0xf0) ∷ ((15, 0), 0x0f) ∷ ((15, 15), 0x1e) ∷ [])
 unfolding picturing
 shown-computed = refl
 
+-- on two lines position p of line l shows display address 16 l + (p + shift) mod 16: shift, line, position; code
+abbrev shownOnTwo : ℕ × ℕ × ℕ → ℕ
+shownOnTwo p = codeAt (panelOnTwo (regs (shows 9) (p .0) 0 1 1 1 1 8 5) 900 Empty 800 .sheet) (p .1) (p .2)
+
+abbrev placesOnTwo : List ((ℕ × ℕ × ℕ) × ℕ)
+placesOnTwo =
+    ((0, 0, 0), 0xf0)
+    ∷ ((0, 0, 15), 0x0f)
+    ∷ ((0, 1, 0), 0x31)
+    ∷ ((0, 1, 15), 0x20)
+    ∷ ((6, 0, 9), 0x0f)
+    ∷ ((6, 0, 10), 0xf0)
+    ∷ ((6, 1, 0), 0x97)
+    ∷ ((6, 1, 9), 0x20)
+    ∷ ((6, 1, 10), 0x31)
+    ∷ ((15, 0, 0), 0x0f)
+    ∷ ((15, 1, 0), 0x20)
+    ∷ ((15, 1, 1), 0x31)
+    ∷ []
+
+pub shown-on-two-computed : Hold shownOnTwo placesOnTwo
+unfolding picturing
+shown-on-two-computed = refl
+
 -- the cursor's position is (address - shift) mod 16, a pattern address taken mod 16: address, shift; position
 abbrev pointed : Address × ℕ → ℕ
-pointed p = positionOf (p .0) (p .1)
+pointed p = positionOf 31 (p .0) (p .1)
 
 abbrev positions : List ((Address × ℕ) × ℕ)
 positions =
@@ -155,9 +226,35 @@ pub positions-computed : Hold pointed positions
 unfolding picturing
 positions-computed = refl
 
+-- the cursor's line and position: chip, address, shift. On two lines line address div 16, a pattern address taken as it is; one line has no other
+abbrev stands : ℕ × Address × ℕ → ℕ × ℕ
+stands p = (lineOf (p .0) (p .1), positionOf (p .0) (p .1) (p .2))
+
+abbrev standings : List ((ℕ × Address × ℕ) × (ℕ × ℕ))
+standings =
+    ((35, shows 9, 0), (0, 9))
+    ∷ ((35, shows 15, 0), (0, 15))
+    ∷ ((35, shows 16, 0), (1, 0))
+    ∷ ((35, shows 25, 6), (1, 3))
+    ∷ ((35, shows 18, 6), (1, 12))
+    ∷ ((35, shows 2, 6), (0, 12))
+    ∷ ((35, shows 31, 15), (1, 0))
+    ∷ ((35, shows 16, 15), (1, 1))
+    ∷ ((35, draws 9, 6), (0, 3))
+    ∷ ((35, draws 22, 11), (1, 11))
+    ∷ ((35, draws 31, 0), (1, 15))
+    ∷ ((31, draws 22, 11), (0, 11))
+    ∷ ((31, draws 31, 0), (0, 15))
+    ∷ ((31, shows 9, 6), (0, 3))
+    ∷ []
+
+pub standings-computed : Hold stands standings
+unfolding picturing
+standings-computed = refl
+
 -- the first dot, by rows, at which two frames differ: of dots (0, 79) and (1, 0) the former; dot (3, 35) is bit 4 of byte 34, and dot (3, 37) bit 2
 abbrev compared : List ℕ × List ℕ → Compared
-compared p = comparedOf (p .0) (p .1)
+compared p = comparedOf 31 (p .0) (p .1)
 
 abbrev dark : List ℕ
 dark = replicate 80 0
@@ -186,3 +283,24 @@ comparisons =
 pub comparisons-computed : Hold compared comparisons
 unfolding picturing
 comparisons-computed = refl
+
+-- and of the chip with two lines, or of an unknown one: chip, two frames
+abbrev told : ℕ × List ℕ × List ℕ → Compared
+told p = comparedOf (p .0) (p .1) (p .2)
+
+abbrev tellings : List ((ℕ × List ℕ × List ℕ) × Compared)
+tellings =
+    ((35, replicate 160 0, replicate 160 0), Same)
+    ∷ ((35, replicate 160 0, with 159 0x01 (replicate 160 0)), At 15 79)
+    ∷ ((35, with 80 0x80 (replicate 160 0), with 159 0x01 (replicate 160 0)), At 8 0)
+    ∷ ((35, dark, dark), Size)
+    ∷ ((35, dark, replicate 160 0), Size)
+    ∷ ((35, replicate 160 0, dark), Size)
+    ∷ ((31, replicate 160 0, replicate 160 0), Size)
+    ∷ ((6, dark, dark), Unknown)
+    ∷ ((6, [], dark), Unknown)
+    ∷ []
+
+pub tellings-computed : Hold told tellings
+unfolding picturing
+tellings-computed = refl

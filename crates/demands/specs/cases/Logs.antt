@@ -8,7 +8,7 @@ use lib.Dec.{ltb}
 use borrow.Author.Tests.{ltb-true}
 use Rattle.log.specs.Frame.{num16, num64, cutAt, badAt, frameOf}
 use Rattle.log.specs.Frames.{piecesFrom}
-use Rattle.chip.specs.Sound.{patternFits}
+use Rattle.chip.specs.Sound.{faultless}
 use Rattle.mirror.specs.Panel.{freshPanel}
 use Rattle.mirror.specs.Answers.{ByteLog, Typed, Proper}
 use Rattle.mirror.specs.laws.TypedLaws.{typed-proper}
@@ -19,7 +19,7 @@ use Rattle.mirror.specs.declared.panel.Panel.{Panel}
 
 -- what computes when a log is answered
 unfoldable pub answering : ℕ
-unfolding num16 num64 cutAt badAt frameOf piecesFrom patternFits rowFor recordOf tallied onward runOf
+unfolding num16 num64 cutAt badAt frameOf piecesFrom faultless rowFor recordOf tallied onward runOf
 answering = 0
 
 -- a time below 65,536
@@ -50,9 +50,12 @@ resetAt t = (10 ∷ 0 ∷ 2 ∷ 0 ∷ []) ++ timeBytes t
 abbrev pub badRecord : List ℕ
 badRecord = 2 ∷ 0 ∷ 3 ∷ 0 ∷ []
 
--- the times of the cases
+-- a fresh panel of a chip with the times of the cases; of the chip with one line
+abbrev pub casePanelOf : ℕ → Panel
+casePanelOf chip = freshPanel chip 10_000 1_640 40
+
 abbrev pub casePanel : Panel
-casePanel = freshPanel 10_000 1_640 40
+casePanel = casePanelOf 31
 
 and-left : (a b : Bool) → (a && b) ≡ true → a ≡ true
 and-left true b e = refl
@@ -72,8 +75,8 @@ bytes [] e i = omega arith
 bytes (b ∷ s) e zero = ltb-true b 256 (and-left (ltb b 256) (allBytes s) e)
 bytes (b ∷ s) e (suc i) = bytes s (and-right (ltb b 256) (allBytes s) e) i
 
-pub typed : (log : List ℕ) → allBytes log ≡ true → Typed 10_000 1_640 40 log
-typed log e = record { reset-fits = omega arith; long-fits = omega arith; short-fits = omega arith; bytes = bytes log e }
+pub typed : (log : List ℕ) → allBytes log ≡ true → Typed 31 10_000 1_640 40 log
+typed log e = record { known = refl; reset-fits = omega arith; long-fits = omega arith; short-fits = omega arith; bytes = bytes log e }
 
 pub proper : (log : List ℕ) → allBytes log ≡ true → Proper casePanel log
 proper log e = typed-proper (typed log e)

@@ -99,5 +99,5 @@ pub not-replayed-from-any : ¬ ((p : Panel) → soundPanel p ≡ true → (log :
     carriedAll (takenOf (answersBy ours p log)) (p .sheet) ≡ panelBy ours p log .sheet)
 unfolding answering
 not-replayed-from-any h =
-    let e : _≡_ {A = ℕ} 16 5 = ap (λ (s : Sheet). addressNumber (s .registers .address)) (h waiting refl (instructAt 41 0x50)) in
+    let e : _≡_ {A = ℕ} 16 5 = ap (λ (s : Sheet). addressNumber 31 (s .registers .address)) (h waiting refl (instructAt 41 0x50)) in
     omega arith

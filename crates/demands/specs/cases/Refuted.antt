@@ -61,7 +61,7 @@ not-still m same h =
 -- ONE THAT OBEYS THE FIRST RECORD AND ONLY NODS AT LATER ONES, whatever it is keyed on: it answers as ours does, obeys while the panel is
 -- fresh, and leaves the sheet alone once it is not. Demand 3: after 57h as data at 0 and at 40 the replay stands at address 2
 abbrev pub IsFresh : Panel → Type 0
-IsFresh p = p ≡ freshPanel (p .times .reset) (p .times .long) (p .times .short)
+IsFresh p = p ≡ freshPanel (p .sheet .registers .chip) (p .times .reset) (p .times .long) (p .times .short)
 
 pub record Nods (m : Mirror) : Type 0 where
   pub answers : (p : Panel) (bytes : List ℕ) → m p bytes .answer ≡ ours p bytes .answer
@@ -96,8 +96,8 @@ nods-sheet m n =
 pub not-nodding : (m : Mirror) → Nods m → ¬ Replays m
 unfolding answering
 not-nodding m n h =
-    let all = ap (λ l. carriedAll (takenOf l) freshSheet) (sym (nods-answers m n)) ∙ h 10_000 1_640 40 twice (typed twice refl) ∙ nods-sheet m n in
-    let e : _≡_ {A = ℕ} 2 1 = ap (λ (s : Sheet). addressNumber (s .registers .address)) all in
+    let all = ap (λ l. carriedAll (takenOf l) (freshSheet 31)) (sym (nods-answers m n)) ∙ h 31 10_000 1_640 40 twice (typed twice refl) ∙ nods-sheet m n in
+    let e : _≡_ {A = ℕ} 2 1 = ap (λ (s : Sheet). addressNumber 31 (s .registers .address)) all in
     omega arith
 
 -- (the busy rule one of them keeps: that which is keyed on the busy end)

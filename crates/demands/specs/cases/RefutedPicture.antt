@@ -3,11 +3,12 @@ use Prim.Native.Nat.{ℕ}
 use native.Mathlib.Omega.{arith}
 use mathlib.Core.Path.{_≡_, refl, sym, _∙_}
 use mathlib.Core.Bool.{false}
-use lib.ListN.{replicate}
+use lib.ListN.{length, replicate}
+use borrow.Author.Tests.{eq-eqb}
 use Rattle.dots.specs.Landing.{countOf}
 use Rattle.dots.specs.Table.{table, sum}
 use Rattle.mirror.specs.Stream.{runOf}
-use Rattle.picture.specs.Paint.{paintedOf}
+use Rattle.picture.specs.Paint.{glassOf, paintedOf}
 use Rattle.picture.specs.Pattern.{fontSize}
 use Rattle.picture.specs.Picture.{lit}
 use Rattle.picture.specs.declared.paint.Painted.the-variants.{Lit}
@@ -17,7 +18,7 @@ use Rattle.demands.specs.cases.Logs.{answering, instructAt, casePanel}
 -- ours does
 pub counts-dots : CountsDots paintedOf
 counts-dots p font dark frame s f g =
-    rw (s, f, g)
+    rw (s, f, eq-eqb (length frame) (glassOf p .size) g)
 
 -- always the same number: a fresh panel has no dot lit, and after 0Eh, with a blank font, five are
 pub not-invented : (n : ℕ) → ¬ CountsDots (λ p font dark frame. Lit n)

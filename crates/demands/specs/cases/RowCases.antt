@@ -4,7 +4,7 @@ use Prim.Native.Nat.{ℕ, zero, suc}
 use lib.Dec.{eqb}
 use mathlib.Core.Path.{_≡_}
 use mathlib.Core.Bool.{Bool}
-use mathlib.Core.List.{List, [], _∷_, map}
+use mathlib.Core.List.{List, [], _∷_, _++_, map}
 use lib.ListN.{replicate}
 use Rattle.chip.specs.Address.{display, pattern}
 use Rattle.chip.specs.declared.address.Address.{Address}
@@ -56,10 +56,11 @@ draws n = Pattern (pattern n)
 abbrev bit : ℕ → Bool
 bit n = eqb n 1
 
--- registers in the paper's order: address; shift; I/D, S; D, C, B; width, 8 or 4; Function Set bits
+-- registers of the chip with one line, in the paper's order: address; shift; I/D, S; D, C, B; width, 8 or 4; Function Set bits
 abbrev pub regs : Address → ℕ → ℕ → ℕ → ℕ → ℕ → ℕ → ℕ → ℕ → Registers
 regs address shift up follow on cursor blink width function =
     record {
+      chip = 31;
       address = address;
       shift = shift;
       up = bit up;
@@ -71,6 +72,22 @@ regs address shift up follow on cursor blink width function =
       function = function;
     }
 
+-- the same of another chip
+abbrev pub regsOf : ℕ → Registers → Registers
+regsOf chip r =
+    record {
+      chip = chip;
+      address = r .address;
+      shift = r .shift;
+      up = r .up;
+      follow = r .follow;
+      on = r .on;
+      cursor = r .cursor;
+      blink = r .blink;
+      eight = r .eight;
+      function = r .function;
+    }
+
 -- two settings in which every bit differs, at a width
 abbrev pub down : ℕ → Registers
 down width = regs (shows 9) 6 0 1 1 0 1 width 5
@@ -78,9 +95,15 @@ down width = regs (shows 9) 6 0 1 1 0 1 width 5
 abbrev pub up : ℕ → Registers
 up width = regs (draws 22) 11 1 0 0 1 0 width 10
 
--- display memory and pattern memory with every place different
+-- display memory of one line and of two, and pattern memory, with every place different; on one line the sixteen past the line are 20h
+abbrev firstLine : List ℕ
+firstLine = 0xf0 ∷ 0xe1 ∷ 0xd2 ∷ 0xc3 ∷ 0xb4 ∷ 0xa5 ∷ 0x96 ∷ 0x87 ∷ 0x78 ∷ 0x69 ∷ 0x5a ∷ 0x4b ∷ 0x3c ∷ 0x2d ∷ 0x1e ∷ 0x0f ∷ []
+
 abbrev pub codes : List ℕ
-codes = 0xf0 ∷ 0xe1 ∷ 0xd2 ∷ 0xc3 ∷ 0xb4 ∷ 0xa5 ∷ 0x96 ∷ 0x87 ∷ 0x78 ∷ 0x69 ∷ 0x5a ∷ 0x4b ∷ 0x3c ∷ 0x2d ∷ 0x1e ∷ 0x0f ∷ []
+codes = firstLine ++ replicate 16 0x20
+
+abbrev pub bothLines : List ℕ
+bothLines = firstLine ++ (0x31 ∷ 0x42 ∷ 0x53 ∷ 0x64 ∷ 0x75 ∷ 0x86 ∷ 0x97 ∷ 0xa8 ∷ 0xb9 ∷ 0xca ∷ 0xdb ∷ 0xec ∷ 0xfd ∷ 0x0e ∷ 0x1f ∷ 0x20 ∷ [])
 
 abbrev pub dots : List ℕ
 dots =
@@ -108,6 +131,10 @@ panelWith registers display pattern busy half last =
 abbrev pub panel : Registers → ℕ → Half → ℕ → Panel
 panel registers busy half last = panelWith registers codes dots busy half last
 
+-- and of the chip with two lines, with registers of its own
+abbrev pub panelOnTwo : Registers → ℕ → Half → ℕ → Panel
+panelOnTwo registers busy half last = panelWith (regsOf 35 registers) bothLines dots busy half last
+
 -- what waits: a half that was held, and one that was ignored, with its RS and R/W
 abbrev pub held : ℕ → ℕ → ℕ → Half
 held rs rw nibble = Waiting (bit rs) (bit rw) nibble
@@ -117,7 +144,10 @@ missed rs rw = Ignored (bit rs) (bit rw)
 
 -- the fresh registers and memories
 abbrev pub blank : List ℕ
-blank = replicate 16 0x20
+blank = replicate 32 0x20
+
+abbrev pub afreshOf : ℕ → ℕ → ℕ → Panel
+afreshOf chip busy last = panelWith (regsOf chip (regs (shows 0) 0 1 0 0 0 0 8 0)) blank (replicate 32 0) busy Empty last
 
 abbrev pub afresh : ℕ → ℕ → Panel
-afresh busy last = panelWith (regs (shows 0) 0 1 0 0 0 0 8 0) blank (replicate 32 0) busy Empty last
+afresh busy last = afreshOf 31 busy last

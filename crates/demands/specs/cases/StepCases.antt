@@ -8,8 +8,8 @@ use Rattle.chip.specs.declared.registers.Registers.{Registers}
 use Rattle.mirror.specs.Panel.{freshPanel}
 use Rattle.mirror.specs.declared.half.Half.the-variants.{Empty}
 use Rattle.mirror.specs.declared.panel.Panel.{Panel}
-use Rattle.demands.specs.cases.Logs.{instructAt, writeAt, transferAt, resetAt}
-use Rattle.demands.specs.cases.RowCases.{Hold, Row, row, answered, recording, shows, draws, regs, down, up, codes, dots, with, panelWith, panel, held, missed, blank, afresh}
+use Rattle.demands.specs.cases.Logs.{instructAt, writeAt, statusAt, transferAt, resetAt}
+use Rattle.demands.specs.cases.RowCases.{Hold, Row, row, answered, recording, shows, draws, regs, regsOf, down, up, codes, bothLines, dots, with, panelWith, panel, panelOnTwo, held, missed, blank, afreshOf, afresh}
 
 -- the busy end after 1,000 with the short time, 71, and with the long time, 2,003
 abbrev short : ℕ
@@ -197,9 +197,88 @@ pub transfers-computed : Hold answered (displayWrites ++ patternWrites ++ dataRe
 unfolding recording
 transfers-computed = refl
 
--- a fresh panel: the three times in the order reset, long, short
-abbrev made : ℕ × ℕ × ℕ → Panel
-made times = freshPanel (times .0) (times .1) (times .2)
+-- ON TWO LINES (document 02, wish 1). An instruction at width 8 and at width 4, as above
+abbrev wholeOnTwo : Registers → ℕ → Registers → ℕ → Row
+wholeOnTwo before code after busy = row (panelOnTwo before 900 Empty 800) (instructAt 1_000 code) 0 0 14 (panelOnTwo after busy Empty 1_000)
 
-pub fresh-computed : Hold made (((30_011, 2_003, 71), afresh 0 0) ∷ [])
+abbrev pairedOnTwo : Registers → ℕ → Registers → ℕ → Row
+pairedOnTwo before code after busy =
+    row (panelOnTwo before 900 (held 0 0 (code / 16)) 800) (instructAt 1_000 (code % 16 * 16 + 11)) 0 0 14 (panelOnTwo after busy Empty 1_000)
+
+-- Clear from the second line: 20h in all 32 places. Home, 03h too: display address 0, shift 0, and nothing else. Function Set: its bits and the width, and nothing else
+abbrev plainOnTwo : List Row
+plainOnTwo =
+    row (panelOnTwo (place (shows 25) 6 0 1) 900 Empty 800) (instructAt 1_000 0x01) 0 0 14 (panelWith (regsOf 35 (place (shows 0) 0 1 1)) blank dots long Empty 1_000)
+    ∷ wholeOnTwo (place (shows 25) 6 0 1) 0x02 (place (shows 0) 0 0 1) long
+    ∷ wholeOnTwo (place (shows 25) 6 0 1) 0x03 (place (shows 0) 0 0 1) long
+    ∷ wholeOnTwo (place (draws 22) 11 1 0) 0x03 (place (shows 0) 0 1 0) long
+    ∷ wholeOnTwo (regs (shows 25) 6 0 1 1 0 1 8 5) 0x3e (regs (shows 25) 6 0 1 1 0 1 8 14) short
+    ∷ pairedOnTwo (regs (shows 25) 6 0 1 1 0 1 4 5) 0x2b (regs (shows 25) 6 0 1 1 0 1 4 11) short
+    ∷ []
+
+-- display address: low five bits, whatever bits 6 and 5 are. Pattern address: low five bits, as on one line
+abbrev setsOnTwo : ℕ → Address → List Row
+setsOnTwo code to =
+    pairedOnTwo (down 4) code (regs to 6 0 1 1 0 1 4 5) short ∷ wholeOnTwo (up 8) code (regs to 11 1 0 0 1 0 8 10) short ∷ []
+
+abbrev addressesOnTwo : List Row
+addressesOnTwo =
+    setsOnTwo 0x80 (shows 0) ++ setsOnTwo 0x8f (shows 15) ++ setsOnTwo 0x90 (shows 16) ++ setsOnTwo 0x9f (shows 31)
+    ++ setsOnTwo 0xa5 (shows 5) ++ setsOnTwo 0xb5 (shows 21) ++ setsOnTwo 0xc0 (shows 0) ++ setsOnTwo 0xd0 (shows 16) ++ setsOnTwo 0xff (shows 31)
+    ++ setsOnTwo 0x55 (draws 21) ++ setsOnTwo 0x6a (draws 10)
+
+-- addresses run on from 0F to 10 and from 1F to 00, and back; the shift goes round 16 as on one line
+abbrev turnsOnTwo : List Row
+turnsOnTwo =
+    wholeOnTwo (place (shows 15) 6 0 1) 0x14 (place (shows 16) 6 0 1) short
+    ∷ wholeOnTwo (place (shows 16) 6 1 1) 0x10 (place (shows 15) 6 1 1) short
+    ∷ wholeOnTwo (place (shows 31) 6 0 1) 0x14 (place (shows 0) 6 0 1) short
+    ∷ wholeOnTwo (place (shows 0) 6 1 1) 0x10 (place (shows 31) 6 1 1) short
+    ∷ wholeOnTwo (place (draws 31) 6 0 1) 0x14 (place (draws 0) 6 0 1) short
+    ∷ wholeOnTwo (place (draws 15) 6 0 1) 0x14 (place (draws 16) 6 0 1) short
+    ∷ wholeOnTwo (place (shows 25) 15 0 1) 0x18 (place (shows 25) 0 0 1) short
+    ∷ wholeOnTwo (place (shows 25) 0 1 1) 0x1c (place (shows 25) 15 1 1) short
+    ∷ []
+
+-- data writes and reads; with S = 1 the one shift moves, left if I/D = 1, right if 0. Places 31, 16 and 15 hold 20h, 31h and 0Fh
+abbrev writesOnTwo : Registers → ℕ → Registers → List ℕ → Row
+writesOnTwo before byte after display =
+    row (panelOnTwo before 900 Empty 800) (writeAt 1_000 byte) 0 0 14 (panelWith (regsOf 35 after) display dots short Empty 1_000)
+
+abbrev readsOnTwo : Registers → ℕ → Registers → Row
+readsOnTwo before byte after = row (panelOnTwo before 900 Empty 800) (transferAt 3 1_000 0xa7) 0 byte 14 (panelOnTwo after short Empty 1_000)
+
+abbrev dataOnTwo : List Row
+dataOnTwo =
+    writesOnTwo (place (shows 15) 6 1 0) 0x57 (place (shows 16) 6 1 0) (with 15 0x57 bothLines)
+    ∷ writesOnTwo (place (shows 16) 6 1 1) 0x57 (place (shows 17) 7 1 1) (with 16 0x57 bothLines)
+    ∷ writesOnTwo (place (shows 31) 15 1 1) 0x57 (place (shows 0) 0 1 1) (with 31 0x57 bothLines)
+    ∷ writesOnTwo (place (shows 0) 0 0 1) 0x57 (place (shows 31) 15 0 1) (with 0 0x57 bothLines)
+    ∷ writesOnTwo (place (shows 16) 6 0 0) 0x57 (place (shows 15) 6 0 0) (with 16 0x57 bothLines)
+    ∷ readsOnTwo (place (shows 31) 6 1 1) 0x20 (place (shows 0) 6 1 1)
+    ∷ readsOnTwo (place (shows 16) 6 0 1) 0x31 (place (shows 15) 6 0 1)
+    ∷ readsOnTwo (place (shows 15) 6 1 0) 0x0f (place (shows 16) 6 1 0)
+    ∷ readsOnTwo (place (draws 22) 6 1 1) 25 (place (draws 23) 6 1 1)
+    ∷ []
+
+-- a status read shows five bits of a display address: free, and while busy. A reset keeps the chip
+abbrev seenOnTwo : List Row
+seenOnTwo =
+    row (panelOnTwo (place (shows 25) 6 0 1) 900 Empty 800) (statusAt 1_000) 2 0x19 14 (panelOnTwo (place (shows 25) 6 0 1) 900 Empty 1_000)
+    ∷ row (panelOnTwo (place (shows 16) 6 0 1) 1_001 Empty 800) (statusAt 1_000) 2 0x90 14 (panelOnTwo (place (shows 16) 6 0 1) 1_001 Empty 1_000)
+    ∷ row (panelOnTwo (regs (shows 25) 6 0 1 1 0 1 4 5) 1_001 Empty 800) (statusAt 1_000) 1 0x90 14 (panelOnTwo (regs (shows 25) 6 0 1 1 0 1 4 5) 1_001 (held 0 1 9) 1_000)
+    ∷ row (panelOnTwo (up 8) 900 Empty 800) (resetAt 1_000) 0 0 12 (afreshOf 35 31_011 1_000)
+    ∷ row (panelOnTwo (down 4) 60_000 (missed 1 0) 800) (resetAt 1_000) 0 0 12 (afreshOf 35 31_011 1_000)
+    ∷ []
+
+pub two-lines-computed : Hold answered (plainOnTwo ++ addressesOnTwo ++ turnsOnTwo ++ dataOnTwo ++ seenOnTwo)
+unfolding recording
+two-lines-computed = refl
+
+-- a fresh panel: the chip, and the three times in the order reset, long, short; of an unknown chip too
+abbrev made : ℕ × ℕ × ℕ × ℕ → Panel
+made given = freshPanel (given .0) (given .1) (given .2) (given .3)
+
+pub fresh-computed :
+    Hold made (((31, 30_011, 2_003, 71), afresh 0 0) ∷ ((35, 30_011, 2_003, 71), afreshOf 35 0 0) ∷ ((6, 30_011, 2_003, 71), afreshOf 6 0 0) ∷ [])
 fresh-computed = refl

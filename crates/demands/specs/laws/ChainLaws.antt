@@ -256,4 +256,4 @@ chain p log h =
 
 -- THE CHAIN
 pub one-chain : OneChain
-one-chain reset long short log t = chain (freshPanel reset long short) log (typed-proper t)
+one-chain chip reset long short log t = chain (freshPanel chip reset long short) log (typed-proper t)

@@ -77,7 +77,7 @@ answered-as p h l time rs reads bus e i =
     ∙ clockless time rs reads bus p l
 
 reset-as : (p : Panel) (h : Half) (l time : ℕ) → l ≤ time →
-    answered (frame.Reset time) (holding l h p) ≡ recorded (done time freshSheet (p .times .reset) p) say.Taken 0 12
+    answered (frame.Reset time) (holding l h p) ≡ recorded (done time (freshSheet (p .sheet .registers .chip)) (p .times .reset) p) say.Taken 0 12
 reset-as p h l time i = rw (le-ltb time l i) refl
 
 live-fits : (eight : Bool) (h : Half) (reads : Bool) → Fits eight h reads → live h ≡ h
@@ -124,7 +124,7 @@ transfer-turn p l l₁ time rs reads bus r x y z q (begins nibble byte n w v) =
 turn : (w k s : Panel) (f : Frame) (r : Recorded) → Beside w k s → Came w f r → Turn parsed Beside f (outOf r) k s
 turn w k s f r (beside p l l₁ x y n) (stands g a used d) = record { follows = rw (stands-sort d) (beside p l l₁ x y n) }
 turn w k s f r (beside p l l₁ x y n) (restarts time z) =
-    taken-turn p (holding l (live (p .half)) p) (holding l₁ Empty p) (frame.Reset time) time freshSheet (p .times .reset) 0 12
+    taken-turn p (holding l (live (p .half)) p) (holding l₁ Empty p) (frame.Reset time) time (freshSheet (p .sheet .registers .chip)) (p .times .reset) 0 12
     (reset-as p (live (p .half)) l time (omega arith))
 turn w k s f r (beside p l l₁ x y n) (transfers time rs reads bus o z q g) = transfer-turn p l l₁ time rs reads bus o x y z q g
 

@@ -118,16 +118,16 @@ replay-from p n log h =
 
 -- DEMAND 3, FIRST HALF
 pub replay : Replays ours
-replay reset long short log t = replay-from (freshPanel reset long short) refl log (typed-proper t)
+replay chip reset long short log t = replay-from (freshPanel chip reset long short) refl log (typed-proper t)
 
 -- and so of a run: both memories, address, shift and settings
-pub replay-run : (reset long short : ℕ) (log : List ℕ) → Typed reset long short log →
-    carriedAll (takenOf (answersBy ours (freshPanel reset long short) log)) freshSheet ≡ runOf (freshPanel reset long short) log .panel .sheet
-replay-run reset long short log t =
-    replay reset long short log t ∙ sym (ap (λ (p : Panel). p .sheet) (of-run (freshPanel reset long short) log (typed-proper t) .panel))
+pub replay-run : (chip reset long short : ℕ) (log : List ℕ) → Typed chip reset long short log →
+    carriedAll (takenOf (answersBy ours (freshPanel chip reset long short) log)) (freshSheet chip) ≡ runOf (freshPanel chip reset long short) log .panel .sheet
+replay-run chip reset long short log t =
+    replay chip reset long short log t ∙ sym (ap (λ (p : Panel). p .sheet) (of-run (freshPanel chip reset long short) log (typed-proper t) .panel))
 
 -- 00h is never carried out
-pub replay-something : (reset long short : ℕ) (log : List ℕ) → Typed reset long short log → AllSomething (takenOf (answersBy ours (freshPanel reset long short) log))
-replay-something reset long short log t =
-    let p = freshPanel reset long short in
+pub replay-something : (chip reset long short : ℕ) (log : List ℕ) → Typed chip reset long short log → AllSomething (takenOf (answersBy ours (freshPanel chip reset long short) log))
+replay-something chip reset long short log t =
+    let p = freshPanel chip reset long short in
     subst (λ l. AllSomething (takenOf l)) (same-answers p log (typed-proper t)) (from-idle p refl log .something)

@@ -11,11 +11,10 @@ use Rattle.log.specs.Frame.{dataOf}
 use Rattle.log.specs.laws.FrontLaws.{Front}
 use Rattle.log.specs.Frames.{Pieces, piecesFrom, pieces, frames, tail, joined}
 use Rattle.log.specs.laws.FramesLaws.{AllRecords, frames-are-records, joined-pieces}
-use Rattle.chip.specs.Sound.{patternFits}
 use Rattle.mirror.specs.Panel.{freshPanel}
 use Rattle.mirror.specs.Answers.{Typed, Proper}
 use Rattle.mirror.specs.laws.TypedLaws.{AllData, frames-data, proper-lasts, typed-proper, typed-lasts}
-use Rattle.mirror.specs.Stream.{runOf}
+use Rattle.mirror.specs.Stream.{runAs, runOf}
 use Rattle.mirror.specs.declared.answer.Answer.{Answer}
 use Rattle.mirror.specs.declared.answer.Answer.the-variants as say
 use Rattle.mirror.specs.declared.half.Half.the-variants.{Empty}
@@ -142,22 +141,22 @@ struck-from p n log c = as-table p log c (engine-struck p n log)
 
 -- DEMAND 3, SECOND HALF
 pub strike : Strikes ours
-strike reset long short log t = struck-from (freshPanel reset long short) refl log (typed-proper t)
+strike chip reset long short log t = struck-from (freshPanel chip reset long short) refl log (typed-proper t)
 
 -- and so of two runs
-pub strike-run : (reset long short : ℕ) (log : List ℕ) → Typed reset long short log → SameRun (freshPanel reset long short) log
-unfolding patternFits runOf
-strike-run reset long short log t =
-    let p = freshPanel reset long short in
-    let s = strike reset long short log t in
+pub strike-run : (chip reset long short : ℕ) (log : List ℕ) → Typed chip reset long short log → SameRun (freshPanel chip reset long short) log
+unfolding runOf
+strike-run chip reset long short log t =
+    let p = freshPanel chip reset long short in
+    let s = strike chip reset long short log t in
     let struck = struckLog ours p log in
     let d : AllData (frames struck) = data-some (s .in-order) (frames-data log (t .bytes)) in
-    let one : runOf p struck .panel ≡ panelBy ours p struck = of-engine p struck refl .panel ∙ same-final (frames struck) p (typed-lasts t) d in
+    let one : runOf p struck .panel ≡ panelBy ours p struck = of-engine p struck (typed-proper t .sound) .panel ∙ same-final (frames struck) p (typed-lasts t) d in
     let e : settledPanel (runOf p struck .panel) ≡ settledPanel (runOf p log .panel) =
     ap settledPanel one ∙ s .panel ∙ sym (ap settledPanel (of-run p log (typed-proper t) .panel)) in
     record {
       panel = e;
       sheet = ap (λ (x : Panel). x .sheet) e;
       busy = ap (λ (x : Panel). x .busy) e;
-      cut = ap (λ (x : List ℕ). ltb 0 (length x)) (s .whole);
+      cut = ap (λ b. runAs b p struck .cut) (typed-proper t .sound) ∙ ap (λ (x : List ℕ). ltb 0 (length x)) (s .whole);
     }

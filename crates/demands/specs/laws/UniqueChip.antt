@@ -11,7 +11,9 @@ use ghost.Atoms.{Atoms}
 use contract.Monad.{Fun}
 use denote.Ref.{now}
 use Rattle.chip.specs.declared.sheet.Sheet.{Sheet}
-use Rattle.chip.proofs.address.step_round as address·step-round
+use Rattle.chip.proofs.sizes.known as sizes·known
+use Rattle.chip.proofs.sizes.lines as sizes·lines
+use Rattle.chip.proofs.sizes.places as sizes·places
 use Rattle.chip.proofs.address.DisplayAddress.moved as display-address·moved
 use Rattle.chip.proofs.address.DisplayAddress.read as display-address·read
 use Rattle.chip.proofs.address.DisplayAddress.write as display-address·write
@@ -36,6 +38,7 @@ use Rattle.chip.proofs.registers.Registers.here as registers·here
 use Rattle.chip.proofs.registers.Registers.read as registers·read
 use Rattle.chip.proofs.registers.Registers.write as registers·write
 use Rattle.chip.proofs.address.Address.fits as address·fits
+use Rattle.chip.proofs.sheet.blank_past as sheet·blank-past
 use Rattle.chip.proofs.sheet.pattern_fits as sheet·pattern-fits
 use Rattle.chip.proofs.sheet.Sheet.fresh as sheet·fresh
 use Rattle.chip.proofs.sheet.Sheet.sound as sheet·sound
@@ -52,20 +55,28 @@ memories-of : {x y : Sheet} → x ≡ y → _≡_ {A = List ℕ × List ℕ} (x 
 memories-of e = ap (λ (s : Sheet). (s .display, s .pattern)) e
 
 module _ {M : Type 1} (𝓤 : URA M) (H : Heap 𝓤) (A : Atoms 𝓤) (mem : Memory → SProp 𝓤) (run : Routine → Fun 𝓤) where
-  -- chip::address::step_round: r ≡ moved (last + 1) up at
-  pub step-round : DeterminesAnswer 𝓤 address·step-round.ended (address·step-round.clauses 𝓤 H A mem run)
-  step-round = equation 𝓤 _ _ _ (λ κs a g r e. refl)
+  -- chip::sizes::known: r ≡ isKnown chip
+  pub known : DeterminesAnswer 𝓤 sizes·known.ended (sizes·known.clauses 𝓤 H A mem run)
+  known = equation 𝓤 _ _ _ (λ κs a g r e. refl)
 
-  -- chip::address::DisplayAddress::moved: r ≡ movedDisplay up self
+  -- chip::sizes::lines: r ≡ linesOf chip
+  pub lines : DeterminesAnswer 𝓤 sizes·lines.ended (sizes·lines.clauses 𝓤 H A mem run)
+  lines = equation 𝓤 _ _ _ (λ κs a g r e. refl)
+
+  -- chip::sizes::places: Places chip r
+  pub places : DeterminesAnswer 𝓤 sizes·places.ended (sizes·places.clauses 𝓤 H A mem run)
+  places = answer 𝓤 _ _ _ (λ κs a g r e. refl) (λ κs a r s e f p q. p .is ∙ sym (q .is))
+
+  -- chip::address::DisplayAddress::moved: r ≡ movedDisplay chip up self
   pub display-address-moved : DeterminesAnswer 𝓤 display-address·moved.ended (display-address·moved.clauses 𝓤 H A mem run)
   display-address-moved = equation 𝓤 _ _ _ (λ κs a g r e. refl)
 
-  -- chip::address::DisplayAddress::read: r ≡ readDisplay self (now (display .entry))
+  -- chip::address::DisplayAddress::read: r ≡ readDisplay chip self (now (display .entry))
   pub display-address-read : DeterminesAnswer 𝓤 display-address·read.ended (display-address·read.clauses 𝓤 H A mem run)
   display-address-read = equation 𝓤 _ _ _ (λ κs a g r e. refl)
 
-  -- chip::address::DisplayAddress::write: now (display .exit) ≡ writtenDisplay self byte (now (display .entry))
-  pub display-address-write : Determines 𝓤 display-address·write.ended (display-address·write.clauses 𝓤 H A mem run) (λ κs e. now (e .1 .1 .0))
+  -- chip::address::DisplayAddress::write: now (display .exit) ≡ writtenDisplay chip self byte (now (display .entry))
+  pub display-address-write : Determines 𝓤 display-address·write.ended (display-address·write.clauses 𝓤 H A mem run) (λ κs e. now (e .1 .1 .1 .0))
   display-address-write = record { Says = _; stated = λ κs a g r e. refl; one = λ κs a r s e f p q. (refl, p ∙ sym q) }
 
   -- chip::address::PatternAddress::moved: r ≡ movedPattern up self
@@ -80,20 +91,20 @@ module _ {M : Type 1} (𝓤 : URA M) (H : Heap 𝓤) (A : Atoms 𝓤) (mem : Mem
   pub pattern-address-write : Determines 𝓤 pattern-address·write.ended (pattern-address·write.clauses 𝓤 H A mem run) (λ κs e. now (e .1 .1 .0))
   pattern-address-write = record { Says = _; stated = λ κs a g r e. refl; one = λ κs a r s e f p q. (refl, p ∙ sym q) }
 
-  -- chip::address::Address::number: r ≡ addressNumber self
+  -- chip::address::Address::number: r ≡ addressNumber chip self
   pub address-number : DeterminesAnswer 𝓤 address·number.ended (address·number.clauses 𝓤 H A mem run)
   address-number = equation 𝓤 _ _ _ (λ κs a g r e. refl)
 
-  -- chip::address::Address::moved: r ≡ movedAddress up self
+  -- chip::address::Address::moved: r ≡ movedAddress chip up self
   pub address-moved : DeterminesAnswer 𝓤 address·moved.ended (address·moved.clauses 𝓤 H A mem run)
   address-moved = equation 𝓤 _ _ _ (λ κs a g r e. refl)
 
-  -- chip::instruction::decode: r ≡ decoded code
+  -- chip::instruction::decode: r ≡ decoded chip code
   pub decode : DeterminesAnswer 𝓤 instruction·decode.ended (instruction·decode.clauses 𝓤 H A mem run)
   decode = equation 𝓤 _ _ _ (λ κs a g r e. refl)
 
-  -- chip::registers::Registers::fresh: Starts freshSheet r (now (display .exit)) (now (pattern .exit))
-  pub registers-fresh : Determines 𝓤 registers·fresh.ended (registers·fresh.clauses 𝓤 H A mem run) {L = List ℕ × List ℕ} (λ κs e. (now (e .0), now (e .1 .0)))
+  -- chip::registers::Registers::fresh: Starts (freshSheet chip) r (now (display .exit)) (now (pattern .exit))
+  pub registers-fresh : Determines 𝓤 registers·fresh.ended (registers·fresh.clauses 𝓤 H A mem run) {L = List ℕ × List ℕ} (λ κs e. (now (e .1 .0), now (e .1 .1 .0)))
   registers-fresh = record { Says = _; stated = λ κs a g r e. refl; one = λ κs a r s e f p q. (registers-of (p ∙ sym q), memories-of (p ∙ sym q)) }
 
   -- chip::registers::Registers::clear: StepsDisplay cleared self (now (display .entry)) r (now (display .exit))
@@ -148,15 +159,19 @@ module _ {M : Type 1} (𝓤 : URA M) (H : Heap 𝓤) (A : Atoms 𝓤) (mem : Mem
   pub registers-write : Determines 𝓤 registers·write.ended (registers·write.clauses 𝓤 H A mem run) {L = List ℕ × List ℕ} (λ κs e. (now (e .1 .1 .0), now (e .1 .1 .1 .0)))
   registers-write = record { Says = _; stated = λ κs a g r e. refl; one = λ κs a r s e f p q. (registers-of (p ∙ sym q), memories-of (p ∙ sym q)) }
 
-  -- chip::address::Address::fits: r ≡ addressFits self
+  -- chip::address::Address::fits: r ≡ addressFits chip self
   pub address-fits : DeterminesAnswer 𝓤 address·fits.ended (address·fits.clauses 𝓤 H A mem run)
   address-fits = equation 𝓤 _ _ _ (λ κs a g r e. refl)
+
+  -- chip::sheet::blank_past: r ≡ blankPast chip display
+  pub blank-past : DeterminesAnswer 𝓤 sheet·blank-past.ended (sheet·blank-past.clauses 𝓤 H A mem run)
+  blank-past = equation 𝓤 _ _ _ (λ κs a g r e. refl)
 
   -- chip::sheet::pattern_fits: r ≡ patternFits pattern
   pub pattern-fits : DeterminesAnswer 𝓤 sheet·pattern-fits.ended (sheet·pattern-fits.clauses 𝓤 H A mem run)
   pattern-fits = equation 𝓤 _ _ _ (λ κs a g r e. refl)
 
-  -- chip::sheet::Sheet::fresh: r ≡ freshSheet
+  -- chip::sheet::Sheet::fresh: r ≡ freshSheet chip
   pub sheet-fresh : DeterminesAnswer 𝓤 sheet·fresh.ended (sheet·fresh.clauses 𝓤 H A mem run)
   sheet-fresh = equation 𝓤 _ _ _ (λ κs a g r e. refl)
 

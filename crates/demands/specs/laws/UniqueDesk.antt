@@ -12,15 +12,21 @@ use contract.Monad.{Fun}
 use denote.Ref.{now}
 use Rattle.desk.specs.laws.PageLaws.{puts-page, puts-end}
 use Rattle.desk.proofs.bytes.held as bytes·held
+use Rattle.desk.proofs.chips.chip_of as chips·chip
 use Rattle.desk.proofs.input.Input.start as input·start
 use Rattle.desk.proofs.number.number_of as number·of
 use Rattle.desk.proofs.page.put as page·put
+use Rattle.desk.proofs.times.times_of as times·times
 use Rattle.demands.specs.Unique.{Determines, DeterminesAnswer, answer, equation}
 
 module _ {M : Type 1} (𝓤 : URA M) (H : Heap 𝓤) (A : Atoms 𝓤) (mem : Memory → SProp 𝓤) (run : Routine → Fun 𝓤) where
   -- desk::bytes::held: HeldIn (now (bytes .entry)) len r
   pub held : DeterminesAnswer 𝓤 bytes·held.ended (bytes·held.clauses 𝓤 H A mem run)
   held = answer 𝓤 _ _ _ (λ κs a g r e. refl) (λ κs a r s e f p q. p .is ∙ sym (q .is))
+
+  -- desk::chips::chip_of: r ≡ chipNamed (now (name .entry))
+  pub chip-of : DeterminesAnswer 𝓤 chips·chip.ended (chips·chip.clauses 𝓤 H A mem run)
+  chip-of = equation 𝓤 _ _ _ (λ κs a g r e. refl)
 
   -- desk::input::Input::start: r ≡ unread
   pub input-start : DeterminesAnswer 𝓤 input·start.ended (input·start.clauses 𝓤 H A mem run)
@@ -33,3 +39,7 @@ module _ {M : Type 1} (𝓤 : URA M) (H : Heap 𝓤) (A : Atoms 𝓤) (mem : Mem
   -- desk::page::put: Puts (now (bytes .entry)) (now (page .entry)) at (now (page .exit)) r
   pub put : Determines 𝓤 page·put.ended (page·put.clauses 𝓤 H A mem run) {L = List ℕ} (λ κs e. now (e .0))
   put = record { Says = _; stated = λ κs a g r e. refl; one = λ κs a r s e f p q. (puts-end _ _ _ _ _ _ _ p q, puts-page _ _ _ _ _ _ _ p q) }
+
+  -- desk::times::times_of: r ≡ timesOf (now (reset .entry)) (now (long .entry)) (now (short .entry))
+  pub times-of : DeterminesAnswer 𝓤 times·times.ended (times·times.clauses 𝓤 H A mem run)
+  times-of = equation 𝓤 _ _ _ (λ κs a g r e. refl)

@@ -34,7 +34,7 @@ module _ {M : Type 1} (𝓤 : URA M) (H : Heap 𝓤) (A : Atoms 𝓤) (mem : Mem
   pub half-fits : DeterminesAnswer 𝓤 half·fits.ended (half·fits.clauses 𝓤 H A mem run)
   half-fits = equation 𝓤 _ _ _ (λ κs a g r e. refl)
 
-  -- mirror::panel::Panel::fresh: r ≡ freshPanel reset long short
+  -- mirror::panel::Panel::fresh: r ≡ freshPanel chip reset long short
   pub panel-fresh : DeterminesAnswer 𝓤 panel·fresh.ended (panel·fresh.clauses 𝓤 H A mem run)
   panel-fresh = equation 𝓤 _ _ _ (λ κs a g r e. refl)
 

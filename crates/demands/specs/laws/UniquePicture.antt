@@ -12,8 +12,11 @@ use contract.Monad.{Fun}
 use denote.Ref.{now}
 use Rattle.picture.proofs.compare.compare as compare·compare
 use Rattle.picture.proofs.compare.Compared.refusal as compare·refusal
+use Rattle.picture.proofs.cursor.line as cursor·line
 use Rattle.picture.proofs.cursor.position as cursor·position
 use Rattle.picture.proofs.cursor.shown as cursor·shown
+use Rattle.picture.proofs.frame.rows as frame·rows
+use Rattle.picture.proofs.frame.frame_size as frame·size
 use Rattle.picture.proofs.frame.lit_at as frame·lit
 use Rattle.picture.proofs.paint.paint as paint·paint
 use Rattle.picture.proofs.paint.Painted.refusal as paint·refusal
@@ -26,7 +29,7 @@ use Rattle.text.proofs.hex as text·hex
 use Rattle.demands.specs.Unique.{Determines, DeterminesAnswer, answer, equation}
 
 module _ {M : Type 1} (𝓤 : URA M) (H : Heap 𝓤) (A : Atoms 𝓤) (mem : Memory → SProp 𝓤) (run : Routine → Fun 𝓤) where
-  -- picture::compare::compare: Compares (now (a .entry)) (now (b .entry)) r
+  -- picture::compare::compare: Compares chip (now (a .entry)) (now (b .entry)) r
   pub compare : DeterminesAnswer 𝓤 compare·compare.ended (compare·compare.clauses 𝓤 H A mem run)
   compare = answer 𝓤 _ _ _ (λ κs a g r e. refl) (λ κs a r s e f p q. p .told ∙ sym (q .told))
 
@@ -34,7 +37,11 @@ module _ {M : Type 1} (𝓤 : URA M) (H : Heap 𝓤) (A : Atoms 𝓤) (mem : Mem
   pub compared-refusal : DeterminesAnswer 𝓤 compare·refusal.ended (compare·refusal.clauses 𝓤 H A mem run)
   compared-refusal = equation 𝓤 _ _ _ (λ κs a g r e. refl)
 
-  -- picture::cursor::position: r ≡ positionOf address shift
+  -- picture::cursor::line: r ≡ lineOf chip address
+  pub cursor-line : DeterminesAnswer 𝓤 cursor·line.ended (cursor·line.clauses 𝓤 H A mem run)
+  cursor-line = equation 𝓤 _ _ _ (λ κs a g r e. refl)
+
+  -- picture::cursor::position: r ≡ positionOf chip address shift
   pub position : DeterminesAnswer 𝓤 cursor·position.ended (cursor·position.clauses 𝓤 H A mem run)
   position = equation 𝓤 _ _ _ (λ κs a g r e. refl)
 
@@ -42,7 +49,15 @@ module _ {M : Type 1} (𝓤 : URA M) (H : Heap 𝓤) (A : Atoms 𝓤) (mem : Mem
   pub cursor-shown : DeterminesAnswer 𝓤 cursor·shown.ended (cursor·shown.clauses 𝓤 H A mem run)
   cursor-shown = equation 𝓤 _ _ _ (λ κs a g r e. refl)
 
-  -- picture::frame::lit_at: r ≡ litAt (now (frame .entry)) row column
+  -- picture::frame::rows: Rows chip r
+  pub frame-rows : DeterminesAnswer 𝓤 frame·rows.ended (frame·rows.clauses 𝓤 H A mem run)
+  frame-rows = answer 𝓤 _ _ _ (λ κs a g r e. refl) (λ κs a r s e f p q. p .is ∙ sym (q .is))
+
+  -- picture::frame::frame_size: FrameSize chip r
+  pub frame-size : DeterminesAnswer 𝓤 frame·size.ended (frame·size.clauses 𝓤 H A mem run)
+  frame-size = answer 𝓤 _ _ _ (λ κs a g r e. refl) (λ κs a r s e f p q. p .is ∙ sym (q .is))
+
+  -- picture::frame::lit_at: r ≡ litAt chip (now (frame .entry)) row column
   pub lit-at : DeterminesAnswer 𝓤 frame·lit.ended (frame·lit.clauses 𝓤 H A mem run)
   lit-at = equation 𝓤 _ _ _ (λ κs a g r e. refl)
 
@@ -62,11 +77,11 @@ module _ {M : Type 1} (𝓤 : URA M) (H : Heap 𝓤) (A : Atoms 𝓤) (mem : Mem
   pub patterns : DeterminesAnswer 𝓤 pattern·patterns.ended (pattern·patterns.clauses 𝓤 H A mem run)
   patterns = equation 𝓤 _ _ _ (λ κs a g r e. refl)
 
-  -- picture::screen::code_at: r ≡ codeAt sheet at
+  -- picture::screen::code_at: r ≡ codeAt sheet line at
   pub code-at : DeterminesAnswer 𝓤 screen·code.ended (screen·code.clauses 𝓤 H A mem run)
   code-at = equation 𝓤 _ _ _ (λ κs a g r e. refl)
 
-  -- picture::screen::codes: r ≡ codesOf sheet
+  -- picture::screen::codes: r ≡ codesOf sheet line
   pub codes : DeterminesAnswer 𝓤 screen·codes.ended (screen·codes.clauses 𝓤 H A mem run)
   codes = equation 𝓤 _ _ _ (λ κs a g r e. refl)
 

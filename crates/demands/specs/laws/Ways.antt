@@ -124,7 +124,7 @@ goes p time rs reads bus false (Waiting r w nibble) z n =
 -- a record on the panel p: not acted on, a reset, or a transfer
 pub data Came (p : Panel) : Frame → Recorded → Type 0 where
   stands : (f : Frame) (a : Answer) (used : ℕ) → Stands a → Came p f (recorded p a 0 used)
-  restarts : (time : ℕ) → p .last ≤ time → Came p (frame.Reset time) (recorded (done time freshSheet (p .times .reset) p) say.Taken 0 12)
+  restarts : (time : ℕ) → p .last ≤ time → Came p (frame.Reset time) (recorded (done time (freshSheet (p .sheet .registers .chip)) (p .times .reset) p) say.Taken 0 12)
   transfers : (time : ℕ) (rs reads : Bool) (bus : ℕ) (r : Recorded) → p .last ≤ time → transferred time rs reads bus p ≡ r →
       Goes p time rs reads bus (p .sheet .registers .eight) (p .half) r → Came p (frame.Transfer time rs reads bus) r
 
@@ -137,7 +137,7 @@ unfolding transferred
 came p frame.Cut n = stands frame.Cut say.Cut 0 cut
 came p (frame.Bad size) n = stands (frame.Bad size) say.Bad size bad
 came p (frame.Reset time) n =
-    unless-back p (frame.Reset time) (ltb time (p .last)) 12 (recorded (done time freshSheet (p .times .reset) p) say.Taken 0 12)
+    unless-back p (frame.Reset time) (ltb time (p .last)) 12 (recorded (done time (freshSheet (p .sheet .registers .chip)) (p .times .reset) p) say.Taken 0 12)
     (λ e. restarts time (ltb-false time (p .last) e))
 came p (frame.Transfer time rs reads bus) n =
     unless-back p (frame.Transfer time rs reads bus) (ltb time (p .last)) 14 (transferred time rs reads bus p)

@@ -3,7 +3,7 @@ use Prim.Native.Nat.{ℕ, zero, suc, _+_, _*_, _/_, _%_, _≤_, _<_, max}
 use mathlib.Core.Path.{_≡_, sym, ap, ap₂, _∙_, subst}
 use mathlib.Core.Bool.{Bool, false}
 use mathlib.Core.List.{List}
-use native.Mathlib.Nat.{zero-add, zero-mul, div-add-mod', not-suc-le-zero}
+use native.Mathlib.Nat.{div-add-mod', not-suc-le-zero}
 use native.Mathlib.Decide.{ℕ-discrete, decLt}
 use native.Mathlib.Omega.{arith}
 use lib.ListN.{length, getD, replicate, length-replicate, getD-replicate, List·getD-eq-default}
@@ -11,7 +11,7 @@ use Rattle.dots.specs.laws.PartsLaws.{place-in, part-of, place-of}
 use Rattle.dots.specs.Bit.{bit, one}
 use Rattle.dots.specs.laws.BitLaws.{one-lt, bit-of-zero}
 use Rattle.dots.specs.Table.{sum}
-use Rattle.dots.specs.engine.Cells.{inOrder, put, strip, block, line, page, lineSum, pageSum}
+use Rattle.dots.specs.engine.Cells.{inOrder, put, strip, block, line, page, pageSum}
 use Rattle.dots.specs.laws.TableLaws.{in-order-keeps, sum-cong, sum-blocks, sum-swap}
 use Rattle.dots.specs.Landing.{Landing, dot, dotsFrame, countOf}
 use Rattle.dots.specs.laws.LandingLaws.{Bytes, is-frame, length-put, put-same, put-other, put-spare, put-bytes}
@@ -195,13 +195,3 @@ module _ (L : Landing) (g : ℕ → ℕ → Bool) where
             sum-cong (λ p. sum (v l p i) wide) (λ p. sum (λ c. one (g (l * tall + i) (p * wide + c))) wide) across
             (λ p hp. sum-cong (v l p i) (λ c. one (g (l * tall + i) (p * wide + c))) wide (λ c hc. e l p i c hl hp hi hc))
             ∙ of-row (l * tall + i))
-
--- where there is one line
-module _ (L : Landing) (tall wide across : ℕ) (v : ℕ → ℕ → ℕ → ℕ → ℕ) where
-  pub one-line : (f : List ℕ) → page L tall wide across 1 v f ≡ line L tall wide across (v 0) 0 f
-  unfolding inOrder
-  one-line f = ap (λ (r : ℕ). line L tall wide across (v 0) r f) (zero-mul tall)
-
-  pub one-line-sum : pageSum tall wide across 1 v ≡ lineSum tall wide across (v 0)
-  unfolding sum
-  one-line-sum = zero-add (lineSum tall wide across (v 0))

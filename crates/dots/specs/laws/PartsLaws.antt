@@ -1,7 +1,7 @@
 -- Parts of n places each, one after the other: place c of part p is p n + c.
 use Prim.Native.Nat.{ℕ, suc, zero, _+_, _*_, _/_, _%_, _<_}
-use mathlib.Core.Path.{_≡_, ap, _∙_}
-use native.Mathlib.Nat.{add-zero, suc-mul, mul-zero, mul-le-mul-right, mul-add-div-right, mul-add-mod-self-right, div-eq-of-lt, mod-eq-of-lt, mod-lt, div-lt-iff-lt-mul}
+use mathlib.Core.Path.{_≡_, sym, ap, _∙_}
+use native.Mathlib.Nat.{add-zero, add-mul, mul-assoc, add-mul-mod-self-right, div-add-mod', suc-mul, mul-zero, mul-le-mul-right, mul-add-div-right, mul-add-mod-self-right, div-eq-of-lt, mod-eq-of-lt, mod-lt, div-lt-iff-lt-mul}
 use native.Mathlib.Omega.{arith}
 
 -- it lies within m parts
@@ -25,3 +25,10 @@ part-of (suc n) m x h = div-lt-iff-lt-mul {k = suc n} {x = x} {y = m} (omega ari
 pub place-of : (n m x : ℕ) → x < m * n → x % n < n
 place-of zero m x h = omega (arith, mul-zero m)
 place-of (suc n) m x h = mod-lt x (omega arith)
+
+-- a part that is counted round m of them, or not: the place is the same, counted round all of them
+pub part-round : (n m p c : ℕ) → (p % m * n + c) % (m * n) ≡ (p * n + c) % (m * n)
+part-round n m p c =
+    let e : p * n ≡ p / m * (m * n) + p % m * n = ap (λ (k : ℕ). k * n) (sym (div-add-mod' p m)) ∙ add-mul (p / m * m) (p % m) n ∙ ap (λ (k : ℕ). k + p % m * n) (mul-assoc (p / m) m n) in
+    let d : p * n + c ≡ p % m * n + c + p / m * (m * n) = omega (arith, e) in
+    sym (ap (λ (k : ℕ). k % (m * n)) d ∙ add-mul-mod-self-right (p % m * n + c) (p / m) (m * n))

@@ -5,7 +5,7 @@ use mathlib.Core.List.{List}
 use native.Mathlib.Omega.{arith}
 use lib.ListN.{length}
 use Rattle.dots.specs.Table.{sum}
-use Rattle.dots.specs.engine.Cells.{inOrder, strip, block, Lights}
+use Rattle.dots.specs.engine.Cells.{inOrder, strip, block, line, Lights}
 use Rattle.dots.specs.laws.TableLaws.{in-order-none, in-order-more, in-order-keeps, sum-none, sum-more, sum-le}
 use Rattle.dots.specs.Landing.{Landing}
 use Rattle.dots.specs.laws.LandingLaws.{length-put}
@@ -43,7 +43,7 @@ module _ (step : ℕ → List ℕ → List ℕ) (value : ℕ → ℕ) (n : ℕ) 
   pub through-few : (most : ℕ) → ((i : ℕ) → value i ≤ most) → (f : List ℕ) (lit k : ℕ) → Through step value n f₀ f lit k → lit ≤ k * most
   through-few most e f lit k T = omega (arith, T .tally, sum-le value most k e)
 
--- a row of a cell and a cell keep the length
+-- a row of a cell, a cell and a line keep the length
 module _ (L : Landing) (tall wide : ℕ) where
   pub length-strip : (v : ℕ → ℕ) (r x : ℕ) (f : List ℕ) → length (strip L wide v r x f) ≡ length f
   length-strip v r x f =
@@ -52,3 +52,7 @@ module _ (L : Landing) (tall wide : ℕ) where
   pub length-block : (v : ℕ → ℕ → ℕ) (r x : ℕ) (f : List ℕ) → length (block L tall wide v r x f) ≡ length f
   length-block v r x f =
       in-order-keeps (λ f'. length f' ≡ length f) _ tall (λ i _ f' h. length-strip (v i) _ x f' ∙ h) f refl
+
+  pub length-line : (across : ℕ) (v : ℕ → ℕ → ℕ → ℕ) (r : ℕ) (f : List ℕ) → length (line L tall wide across v r f) ≡ length f
+  length-line across v r f =
+      in-order-keeps (λ f'. length f' ≡ length f) _ across (λ p _ f' h. length-block (v p) r _ f' ∙ h) f refl

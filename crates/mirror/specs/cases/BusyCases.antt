@@ -4,7 +4,8 @@ use mathlib.Core.Path.{_≡_, refl}
 use mathlib.Core.Bool.{Bool, true}
 use mathlib.Core.List.{List, [], _∷_}
 use Rattle.log.specs.Frame.{num16, num64, cutAt, badAt, frameOf, timeOf}
-use Rattle.chip.specs.Sound.{patternFits}
+use Rattle.chip.specs.Sizes.{oneLine}
+use Rattle.chip.specs.Sound.{faultless}
 use Rattle.mirror.specs.Panel.{freshPanel}
 use Rattle.mirror.specs.engine.Record.{transferred}
 use Rattle.mirror.specs.Table.{recordOf}
@@ -29,13 +30,13 @@ abbrev log : List (List ℕ)
 log = sent 0 0 0x20 ∷ sent 39 0 0x80 ∷ sent 7 0 0x50 ∷ sent 41 0 0x50 ∷ sent 42 0 0x80 ∷ sent 43 0 0x50 ∷ []
 
 abbrev entries : List Noted
-entries = notedFrom (freshPanel 10000 1640 40) log
+entries = notedFrom (freshPanel oneLine 10000 1640 40) log
 
 -- both halves of the pair begun at 39 are ignored, though the chip is free by 41, and the next pair is not skewed
 answers : numbers entries ≡ 0 ∷ 3 ∷ 5 ∷ 3 ∷ 1 ∷ 0 ∷ []
-unfolding num16 num64 cutAt badAt frameOf patternFits transferred recordOf
+unfolding num16 num64 cutAt badAt frameOf faultless transferred recordOf
 answers = refl
 
 starts : begun true none entries ≡ 0 ∷ 39 ∷ 39 ∷ 39 ∷ 42 ∷ 42 ∷ []
-unfolding num16 num64 cutAt badAt frameOf patternFits transferred recordOf
+unfolding num16 num64 cutAt badAt frameOf faultless transferred recordOf
 starts = refl

@@ -41,9 +41,10 @@ modesOf r =
     }
 
 -- the registers put together again
-abbrev pub registersWith : Address → ℕ → Modes → Registers
-registersWith a shift m =
+abbrev pub registersWith : ℕ → Address → ℕ → Modes → Registers
+registersWith chip a shift m =
     record {
+      chip = chip;
       address = a;
       shift = shift;
       up = m .up;

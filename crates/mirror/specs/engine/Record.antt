@@ -52,5 +52,5 @@ abbrev pub answered : Frame → Panel → Recorded
 answered frame.Cut p = recorded p say.Cut 0 0
 answered (frame.Bad n) p = recorded p say.Bad 0 n
 answered (frame.Reset time) p =
-    pick (ltb time (p .last)) (recorded p say.Back 0 12) (recorded (done time freshSheet (p .times .reset) p) say.Taken 0 12)
+    pick (ltb time (p .last)) (recorded p say.Back 0 12) (recorded (done time (freshSheet (p .sheet .registers .chip)) (p .times .reset) p) say.Taken 0 12)
 answered (frame.Transfer time rs reads bus) p = pick (ltb time (p .last)) (recorded p say.Back 0 14) (transferred time rs reads bus p)

@@ -243,5 +243,5 @@ all-decided (f ∷ fs) p o h l d =
 
 -- every log from a fresh panel
 pub ignored-exactly-when-busy : IgnoredExactlyWhenBusy
-ignored-exactly-when-busy r l s log t =
-    all-decided (frames log) (freshPanel r l s) none closed (typed-lasts t) (frames-data log (t .bytes))
+ignored-exactly-when-busy chip r l s log t =
+    all-decided (frames log) (freshPanel chip r l s) none closed (typed-lasts t) (frames-data log (t .bytes))

@@ -33,13 +33,14 @@ withParts p r h =
 
 pub opened : (p : Panel) {b : Bool} {d : DisplayAddress} {q : PatternAddress} {m : Modes} (h : Half) →
     Stands (p .sheet .registers .address) b d q → m ≡ modesOf (p .sheet .registers) → p .half ≡ h →
-    withParts p (registersWith (addressOf b d q) (p .sheet .registers .shift) m) h ≡ p
+    withParts p (registersWith (p .sheet .registers .chip) (addressOf b d q) (p .sheet .registers .shift) m) h ≡ p
 opened p h s g k = ap (λ x. withParts p x h) (registers-back (p .sheet .registers) s g) ∙ ap (λ x. withParts p (p .sheet .registers) x) (sym k)
 
 -- a state with its registers and its busy end set anew
-abbrev withBusy : Live → Bool → DisplayAddress → PatternAddress → ℕ → Modes → ℕ → Live
-withBusy k b d p shift m busy =
+abbrev withBusy : Live → ℕ → Bool → DisplayAddress → PatternAddress → ℕ → Modes → ℕ → Live
+withBusy k chip b d p shift m busy =
     record {
+      chip = chip;
       patterned = b;
       display = d;
       pattern = p;
@@ -58,13 +59,13 @@ withBusy k b d p shift m busy =
 
 pub carried : (k left : Live) (r : Registers) {b : Bool} {x : DisplayAddress} {y : PatternAddress} {m : Modes} (time span byte used : ℕ) →
     Passes time say.Taken byte used k left → Stands (r .address) b x y → m ≡ modesOf r → (t : Times) (d p : List ℕ) →
-    recordedOf t (withBusy left b x y (r .shift) m (time + span)) d p ≡ recorded (done time (sheetOf r d p) span (panelOf t k d p)) say.Taken byte used
+    recordedOf t (withBusy left (r .chip) b x y (r .shift) m (time + span)) d p ≡ recorded (done time (sheetOf r d p) span (panelOf t k d p)) say.Taken byte used
 carried k left r {b} {x} {y} {m} time span byte used w s g t d p =
     ap
     (λ (z : Recorded).
     recorded
     (record {
-      sheet = sheetOf (registersWith (addressOf b x y) (r .shift) m) d p;
+      sheet = sheetOf (registersWith (r .chip) (addressOf b x y) (r .shift) m) d p;
       busy = time + span;
       half = z .panel .half;
       times = t;

@@ -60,7 +60,7 @@ answered-used frame.Cut p = refl
 answered-used (frame.Bad n) p = refl
 answered-used (frame.Reset t) p = by (ltb t (p .last))
   where
-    by : (b : Bool) → pick b (recorded p say.Back 0 12) (recorded (done t freshSheet (p .times .reset) p) say.Taken 0 12) .used ≡ 12
+    by : (b : Bool) → pick b (recorded p say.Back 0 12) (recorded (done t (freshSheet (p .sheet .registers .chip)) (p .times .reset) p) say.Taken 0 12) .used ≡ 12
     by true = refl
     by false = refl
 answered-used (frame.Transfer t rs reads bus) p = by (ltb t (p .last))

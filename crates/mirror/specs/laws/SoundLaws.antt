@@ -11,7 +11,8 @@ use Rattle.log.specs.Frame.{timeOf, dataOf, rsOf, rwOf, isReset, lateTime, badA
 use Rattle.log.specs.laws.FrameLaws.{time-bad}
 use Rattle.chip.specs.Sheet.{freshSheet}
 use Rattle.chip.specs.Step.{obeyed, written, passed}
-use Rattle.chip.specs.laws.SoundLaws as chip
+use Rattle.chip.specs.Sizes.{isKnown}
+use Rattle.chip.specs.laws.SoundLaws as steps
 use Rattle.mirror.specs.Panel.{freshPanel, halfFits, timeEnd, soundPanel}
 use Rattle.mirror.specs.Words.{free, holding, done}
 use Rattle.mirror.specs.laws.SoundParts.{Sound, parts, whole}
@@ -36,11 +37,11 @@ pub record Lasts (p : Panel) : Type 0 where
   pub sound : Sound p
   pub times : TimesFit (p .times)
 
-pub fresh-parts : (reset long short : ℕ) → Sound (freshPanel reset long short)
-fresh-parts r l s = record { sheet = chip.fresh-sound; half = refl; last = omega arith; busy = omega arith }
+pub fresh-parts : (chip reset long short : ℕ) → isKnown chip ≡ true → Sound (freshPanel chip reset long short)
+fresh-parts chip r l s k = record { sheet = steps.fresh-sound chip k; half = refl; last = omega arith; busy = omega arith }
 
-pub fresh-lasts : (reset long short : ℕ) → reset ≤ 65535 → long ≤ 65535 → short ≤ 65535 → Lasts (freshPanel reset long short)
-fresh-lasts r l s a b c = record { sound = fresh-parts r l s; times = record { reset = a; long = b; short = c } }
+pub fresh-lasts : (chip reset long short : ℕ) → isKnown chip ≡ true → reset ≤ 65535 → long ≤ 65535 → short ≤ 65535 → Lasts (freshPanel chip reset long short)
+fresh-lasts chip r l s k a b c = record { sound = fresh-parts chip r l s k; times = record { reset = a; long = b; short = c } }
 
 -- a first half that is marked ignored is no status half
 ignored-fits : (eight : Bool) (half : Half) (rs reads busy : Bool) → busyAt half (not (reads && not rs) && busy) ≡ true →
@@ -71,11 +72,11 @@ module _ (p : Panel) (log : List ℕ) (small : dataOf log < 256) (h : Lasts p) w
   nibble-fits false = omega arith
 
   sheet-sound : (a b c : Bool) →
-      chip.Sound (pick a freshSheet (pick b (pick c (passed (p .sheet)) (written (byteOf p log) (p .sheet))) (obeyed (byteOf p log) (p .sheet))))
-  sheet-sound true b c = chip.fresh-sound
-  sheet-sound false true true = chip.passed-sound (p .sheet) (h .sound .sheet)
-  sheet-sound false true false = chip.written-sound (byteOf p log) (p .sheet) (h .sound .sheet)
-  sheet-sound false false c = chip.obeyed-sound (byteOf p log) (p .sheet) (h .sound .sheet)
+      steps.Sound (pick a (freshSheet (p .sheet .registers .chip)) (pick b (pick c (passed (p .sheet)) (written (byteOf p log) (p .sheet))) (obeyed (byteOf p log) (p .sheet))))
+  sheet-sound true b c = steps.fresh-sound (p .sheet .registers .chip) (h .sound .sheet .known)
+  sheet-sound false true true = steps.passed-sound (p .sheet) (h .sound .sheet)
+  sheet-sound false true false = steps.written-sound (byteOf p log) (p .sheet) (h .sound .sheet)
+  sheet-sound false false c = steps.obeyed-sound (byteOf p log) (p .sheet) (h .sound .sheet)
 
   span-fits : (a b : Bool) → pick a (p .times .reset) (pick b (p .times .long) (p .times .short)) ≤ 65535
   span-fits true b = h .times .reset
@@ -121,8 +122,8 @@ pub record-lasts : (p : Panel) (log : List ℕ) → dataOf log < 256 → Lasts p
 record-lasts p log small h = each-row p log (λ n q. Lasts q) (row-lasts p log small h)
 
 -- in the words of the test that `record` makes
-pub fresh-sound : (reset long short : ℕ) → soundPanel (freshPanel reset long short) ≡ true
-fresh-sound r l s = whole (freshPanel r l s) (fresh-parts r l s)
+pub fresh-sound : (chip reset long short : ℕ) → isKnown chip ≡ true → soundPanel (freshPanel chip reset long short) ≡ true
+fresh-sound chip r l s k = whole (freshPanel chip r l s) (fresh-parts chip r l s k)
 
 pub record-sound : (p : Panel) (log : List ℕ) → dataOf log < 256 → TimesFit (p .times) → soundPanel p ≡ true → soundPanel (panelAfter p log) ≡ true
 record-sound p log small t e = whole (panelAfter p log) (record-lasts p log small (record { sound = parts p e; times = t }) .sound)

@@ -48,7 +48,7 @@ at eight half p =
       sheet =
           record {
             registers =
-                record { address = r .address; shift = r .shift; up = r .up; follow = r .follow; on = r .on; cursor = r .cursor; blink = r .blink; eight = eight; function = r .function };
+                record { chip = r .chip; address = r .address; shift = r .shift; up = r .up; follow = r .follow; on = r .on; cursor = r .cursor; blink = r .blink; eight = eight; function = r .function };
             display = p .sheet .display;
             pattern = p .sheet .pattern;
           };
@@ -144,7 +144,7 @@ module _ (p : Panel) (log : List ℕ) where
       (unless-back (isBack p log) (transferred (timeOf log) (rsOf log) (rwOf log) (dataOf log) p) (g .size) (transfer-row k (g .size)))
   frame-row f (reset g k b t) =
       rw (g .uncut, b, k)
-      (unless-back (isBack p log) (recorded (done (timeOf log) freshSheet (p .times .reset) p) say.Taken 0 12) (g .size)
+      (unless-back (isBack p log) (recorded (done (timeOf log) (freshSheet (p .sheet .registers .chip)) (p .times .reset) p) say.Taken 0 12) (g .size)
       (row p log refl (rw k) (rw k) (g .size)))
 
 -- the number of an answer tells it

@@ -38,9 +38,9 @@ proper-lasts {p} h =
       times = record { reset = omega (arith, h .reset-fits); long = omega (arith, h .long-fits); short = omega (arith, h .short-fits) };
     }
 
-pub typed-proper : {reset long short : ℕ} {log : List ℕ} → Typed reset long short log → Proper (freshPanel reset long short) log
-typed-proper {reset} {long} {short} t =
-    record { sound = fresh-sound reset long short; reset-fits = t .reset-fits; long-fits = t .long-fits; short-fits = t .short-fits; bytes = t .bytes }
+pub typed-proper : {chip reset long short : ℕ} {log : List ℕ} → Typed chip reset long short log → Proper (freshPanel chip reset long short) log
+typed-proper {chip} {reset} {long} {short} t =
+    record { sound = fresh-sound chip reset long short (t .known); reset-fits = t .reset-fits; long-fits = t .long-fits; short-fits = t .short-fits; bytes = t .bytes }
 
-pub typed-lasts : {reset long short : ℕ} {log : List ℕ} → Typed reset long short log → Lasts (freshPanel reset long short)
-typed-lasts {reset} {long} {short} t = fresh-lasts reset long short (omega (arith, t .reset-fits)) (omega (arith, t .long-fits)) (omega (arith, t .short-fits))
+pub typed-lasts : {chip reset long short : ℕ} {log : List ℕ} → Typed chip reset long short log → Lasts (freshPanel chip reset long short)
+typed-lasts {chip} {reset} {long} {short} t = fresh-lasts chip reset long short (t .known) (omega (arith, t .reset-fits)) (omega (arith, t .long-fits)) (omega (arith, t .short-fits))

@@ -1,18 +1,18 @@
--- The eight rows that the painter shows at a position. That their dots are the lit ones is the law `shown-lit`.
-use Prim.Native.Nat.{ℕ, _-_, _%_, _<_}
+-- The eight rows that the painter shows at a position of a line. That their dots are the lit ones is the law `shown-lit`.
+use Prim.Native.Nat.{ℕ, _-_, _*_, _%_, _<_}
 use mathlib.Core.Path.{_≡_}
 use mathlib.Core.Bool.{Bool, not, _&&_}
 use mathlib.Core.List.{List, []}
-use lib.Dec.{ltb, eqb}
+use lib.Dec.{ltb}
 use lib.ListN.{getD, replicate, set}
 use Rattle.laws.specs.Pick.{pick}
 use Rattle.dots.specs.Bit.{bit}
 use Rattle.dots.specs.Table.{sum}
-use Rattle.dots.specs.engine.Cells.{Lights, strip, block, line, blockSum, lineSum}
-use Rattle.chip.specs.Sizes.{positions, rowEnd}
+use Rattle.dots.specs.engine.Cells.{Lights, strip, block, line, page, blockSum, lineSum, pageSum}
+use Rattle.chip.specs.Sizes.{linesOf, positions, rowEnd}
 use Rattle.chip.specs.declared.sheet.Sheet.{Sheet}
 use Rattle.picture.specs.Pattern.{tall, wide, patterns, fontStart, glyphOf}
-use Rattle.picture.specs.Cursor.{positionOf}
+use Rattle.picture.specs.Cursor.{cursorHere}
 use Rattle.picture.specs.Frame.{glass}
 use Rattle.picture.specs.Picture.{shapeAt, cursorRow}
 use Rattle.picture.specs.declared.frame.Place.{Place}
@@ -25,12 +25,12 @@ shapeFrom own font code = pick (ltb code fontStart) (getD own (code % patterns) 
 abbrev pub full : ℕ
 full = rowEnd - 1
 
-unfoldable pub shownOf : Sheet → List ℕ → Bool → ℕ → List ℕ
-shownOf s font dark p =
+unfoldable pub shownOf : Sheet → List ℕ → Bool → ℕ → ℕ → List ℕ
+shownOf s font dark l p =
     pick (not (s .registers .on)) (replicate tall 0)
-    (pick (not (eqb p (positionOf (s .registers .address) (s .registers .shift)))) (shapeAt s font p)
+    (pick (not (cursorHere (s .registers) l p)) (shapeAt s font l p)
     (pick (s .registers .blink && dark) (replicate tall full)
-    (pick (s .registers .cursor) (set (shapeAt s font p) cursorRow full) (shapeAt s font p))))
+    (pick (s .registers .cursor) (set (shapeAt s font l p) cursorRow full) (shapeAt s font l p))))
 
 -- dot c of a row of five, the leftmost being the highest bit
 abbrev pub rowDot : ℕ → ℕ → ℕ
@@ -40,23 +40,29 @@ rowDot row c = bit row (wide - 1 - c)
 abbrev pub cellDot : List ℕ → ℕ → ℕ → ℕ
 cellDot rows i = rowDot (getD rows i 0)
 
--- the dots of the line by position, row and column
-abbrev pub lineDot : Sheet → List ℕ → Bool → ℕ → ℕ → ℕ → ℕ
-lineDot s font dark p = cellDot (shownOf s font dark p)
+-- the dots of the screen by line, position, row and column
+abbrev pub pageDot : Sheet → List ℕ → Bool → ℕ → ℕ → ℕ → ℕ → ℕ
+pageDot s font dark l p = cellDot (shownOf s font dark l p)
 
--- a row of a cell put at (r, x), a cell put at (r, x), the line put: the frame before and after, and how many dots were lit
-abbrev pub PutsRow : ℕ → ℕ → ℕ → List ℕ → List ℕ → ℕ → Type 0
-PutsRow row r x = Lights (strip glass wide (rowDot row) r x) (sum (rowDot row) wide)
+-- a row of a cell put at (r, x), a cell put at (r, x), line l put, all lines put: the frame before and after, and how many dots were lit
+abbrev pub PutsRow : ℕ → ℕ → ℕ → ℕ → List ℕ → List ℕ → ℕ → Type 0
+PutsRow chip row r x = Lights (strip (glass chip) wide (rowDot row) r x) (sum (rowDot row) wide)
 
-abbrev pub PutsCell : List ℕ → ℕ → ℕ → List ℕ → List ℕ → ℕ → Type 0
-PutsCell rows r x = Lights (block glass tall wide (cellDot rows) r x) (blockSum tall wide (cellDot rows))
+abbrev pub PutsCell : ℕ → List ℕ → ℕ → ℕ → List ℕ → List ℕ → ℕ → Type 0
+PutsCell chip rows r x = Lights (block (glass chip) tall wide (cellDot rows) r x) (blockSum tall wide (cellDot rows))
 
-abbrev pub PutsLine : Sheet → List ℕ → Bool → List ℕ → List ℕ → ℕ → Type 0
-PutsLine s font dark = Lights (line glass tall wide positions (lineDot s font dark) 0) (lineSum tall wide positions (lineDot s font dark))
+abbrev pub PutsLine : Sheet → List ℕ → Bool → ℕ → List ℕ → List ℕ → ℕ → Type 0
+PutsLine s font dark l =
+    Lights (line (glass (s .registers .chip)) tall wide positions (pageDot s font dark l) (l * tall)) (lineSum tall wide positions (pageDot s font dark l))
 
--- the place is where dot (r, x) lands, which is inside the frame
-pub record Lands (r x : ℕ) (place : Place) : Type 0 where
-  pub byte-is : place .byte ≡ glass .byteAt r x
-  pub bit-is : place .bit ≡ glass .bitAt r x
-  pub in-frame : place .byte < glass .size
+abbrev pub PutsPage : Sheet → List ℕ → Bool → List ℕ → List ℕ → ℕ → Type 0
+PutsPage s font dark =
+    Lights (page (glass (s .registers .chip)) tall wide positions (linesOf (s .registers .chip)) (pageDot s font dark))
+    (pageSum tall wide positions (linesOf (s .registers .chip)) (pageDot s font dark))
+
+-- the place is where dot (r, x) of a chip's frame lands, which is inside the frame
+pub record Lands (chip r x : ℕ) (place : Place) : Type 0 where
+  pub byte-is : place .byte ≡ glass chip .byteAt r x
+  pub bit-is : place .bit ≡ glass chip .bitAt r x
+  pub in-frame : place .byte < glass chip .size
   pub in-byte : place .bit < 8

@@ -1,6 +1,6 @@
 -- The cells painted on a blank frame are the frame of the lit dots, and what was lit is their number.
 use Prim.Native.Nat.{ℕ, _+_, _*_, _<_}
-use mathlib.Core.Path.{_≡_, refl, sym, ap, _∙_}
+use mathlib.Core.Path.{_≡_, refl, ap, _∙_}
 use mathlib.Core.Bool.{Bool, true, false, not}
 use mathlib.Core.List.{List}
 use mathlib.Core.Option.{Option, none, some}
@@ -10,40 +10,41 @@ use lib.Dec.{eqb}
 use lib.ListN.{length, replicate}
 use Rattle.laws.specs.Pick.{pick}
 use Rattle.dots.specs.Bit.{one}
-use Rattle.dots.specs.Landing.{dot, dotsFrame, countOf}
+use Rattle.dots.specs.Landing.{Landing, dot, dotsFrame, countOf}
 use Rattle.dots.specs.laws.LandingLaws.{dot-frame, length-frame}
-use Rattle.dots.specs.engine.Cells.{line}
-use Rattle.dots.specs.laws.CellsLaws.{page-frame, page-count, one-line, one-line-sum}
+use Rattle.dots.specs.engine.Cells.{page}
+use Rattle.dots.specs.laws.CellsLaws.{page-frame, page-count}
 use Rattle.chip.specs.declared.sheet.Sheet.{Sheet}
 use Rattle.mirror.specs.Panel.{soundPanel}
 use Rattle.mirror.specs.declared.panel.Panel.{Panel}
 use Rattle.picture.specs.Pattern.{tall, wide, fontSize}
 use Rattle.picture.specs.Frame.{glass, litAt}
-use Rattle.chip.specs.Sizes.{lines, positions}
+use Rattle.chip.specs.Sizes.{linesOf, positions}
 use Rattle.picture.specs.Picture.{lit}
-use Rattle.picture.specs.engine.Shown.{PutsLine, lineDot}
+use Rattle.picture.specs.engine.Shown.{PutsPage, pageDot}
 use Rattle.picture.specs.laws.ShownLaws.{shown-lit}
-use Rattle.picture.specs.Paint.{Paints, paintPaper, dotsFor, paintedOf, frameAfter}
+use Rattle.picture.specs.Paint.{Paints, glassOf, paintPaper, dotsFor, paintedOf, frameAfter}
 use Rattle.picture.specs.declared.paint.Painted.{Painted}
 use Rattle.picture.specs.declared.paint.Painted.the-variants.{Lit, Size, Unsound}
 
 module _ (s : Sheet) (font : List ℕ) (dark : Bool) where
-  dots : (l p i c : ℕ) → l < lines → p < positions → i < tall → c < wide
-      → lineDot s font dark p i c ≡ one (lit s font dark (l * tall + i) (p * wide + c))
-  dots l p i c hl hp hi hc =
-      let first : i ≡ l * tall + i = omega arith in
-      shown-lit s font dark p i c hi hc ∙ ap (λ (r : ℕ). one (lit s font dark r (p * wide + c))) first
+  abbrev own : Landing
+  own = glass (s .registers .chip)
 
-  pub line-frame : (f after : List ℕ) (n : ℕ) → f ≡ replicate (glass .size) 0 → PutsLine s font dark f after n → after ≡ dotsFrame glass (lit s font dark)
-  line-frame f after n e P =
-      P .frame ∙ ap (line glass tall wide positions (lineDot s font dark) 0) e
-      ∙ sym (one-line glass tall wide positions (λ l. lineDot s font dark) (replicate (glass .size) 0))
-      ∙ page-frame glass (lit s font dark) tall wide positions lines refl refl (λ l. lineDot s font dark) dots
+  abbrev count : ℕ
+  count = linesOf (s .registers .chip)
 
-  pub line-count : (f after : List ℕ) (n : ℕ) → PutsLine s font dark f after n → n ≡ countOf glass (lit s font dark)
-  line-count f after n P =
-      P .tally ∙ sym (one-line-sum glass tall wide positions (λ l. lineDot s font dark))
-      ∙ page-count glass (lit s font dark) tall wide positions lines refl refl (λ l. lineDot s font dark) dots
+  dots : (l p i c : ℕ) → l < count → p < positions → i < tall → c < wide
+      → pageDot s font dark l p i c ≡ one (lit s font dark (l * tall + i) (p * wide + c))
+  dots l p i c hl hp hi hc = shown-lit s font dark l p i c hi hc
+
+  pub page-painted : (f after : List ℕ) (n : ℕ) → f ≡ replicate (own .size) 0 → PutsPage s font dark f after n → after ≡ dotsFrame own (lit s font dark)
+  page-painted f after n e P =
+      P .frame ∙ ap (page own tall wide positions count (pageDot s font dark)) e
+      ∙ page-frame own (lit s font dark) tall wide positions count refl refl (pageDot s font dark) dots
+
+  pub page-counted : (f after : List ℕ) (n : ℕ) → PutsPage s font dark f after n → n ≡ countOf own (lit s font dark)
+  page-counted f after n P = P .tally ∙ page-count own (lit s font dark) tall wide positions count refl refl (pageDot s font dark) dots
 
 module _ (panel : Panel) (font : List ℕ) (dark : Bool) (frame : List ℕ) where
   -- the answer on paper: 10 for a panel that is not sound, then 9 for a size, and then 0 lit dots; otherwise no number, and those that are lit
@@ -51,7 +52,7 @@ module _ (panel : Panel) (font : List ℕ) (dark : Bool) (frame : List ℕ) wher
       → Paints panel font dark frame answer after
   paints answer after told left = record {
     told = told;
-    paper = ap paintPaper told ∙ by (not (soundPanel panel)) (not (eqb (length font) fontSize)) (not (eqb (length frame) (glass .size)));
+    paper = ap paintPaper told ∙ by (not (soundPanel panel)) (not (eqb (length font) fontSize)) (not (eqb (length frame) (glassOf panel .size)));
     left = left;
   }
     where
@@ -73,28 +74,28 @@ module _ (panel : Panel) (font : List ℕ) (dark : Bool) (frame : List ℕ) wher
   paints-font u f = paints Size frame (rw (u, ne-eqb (length font) fontSize f)) (rw (u, ne-eqb (length font) fontSize f))
 
   module _ (u : not (soundPanel panel) ≡ false) (f : length font ≡ fontSize) where
-    pub paints-size : (length frame ≡ glass .size → ⊥) → Paints panel font dark frame Size frame
+    pub paints-size : (length frame ≡ glassOf panel .size → ⊥) → Paints panel font dark frame Size frame
     paints-size g =
         paints Size frame
-        (rw (u, eq-eqb (length font) fontSize f, ne-eqb (length frame) (glass .size) g))
-        (rw (u, eq-eqb (length font) fontSize f, ne-eqb (length frame) (glass .size) g))
+        (rw (u, eq-eqb (length font) fontSize f, ne-eqb (length frame) (glassOf panel .size) g))
+        (rw (u, eq-eqb (length font) fontSize f, ne-eqb (length frame) (glassOf panel .size) g))
 
-    pub paints-line : length frame ≡ glass .size → (blank after : List ℕ) (n : ℕ) → blank ≡ replicate (glass .size) 0
-        → PutsLine (panel .sheet) font dark blank after n → Paints panel font dark frame (Lit n) after
-    paints-line g blank after n e P =
+    pub paints-lines : length frame ≡ glassOf panel .size → (blank after : List ℕ) (n : ℕ) → blank ≡ replicate (glassOf panel .size) 0
+        → PutsPage (panel .sheet) font dark blank after n → Paints panel font dark frame (Lit n) after
+    paints-lines g blank after n e P =
         paints (Lit n) after
-        (rw (u, eq-eqb (length font) fontSize f, eq-eqb (length frame) (glass .size) g) (ap Lit (line-count (panel .sheet) font dark blank after n P)))
-        (rw (u, eq-eqb (length font) fontSize f, eq-eqb (length frame) (glass .size) g) (line-frame (panel .sheet) font dark blank after n e P))
+        (rw (u, eq-eqb (length font) fontSize f, eq-eqb (length frame) (glassOf panel .size) g) (ap Lit (page-counted (panel .sheet) font dark blank after n P)))
+        (rw (u, eq-eqb (length font) fontSize f, eq-eqb (length frame) (glassOf panel .size) g) (page-painted (panel .sheet) font dark blank after n e P))
 
   -- whatever holds of the two refusals, with the frame as it was, and of the painting, holds
   pub painting-is : (P : Painted → List ℕ → Type 0) → P Unsound frame → P Size frame
-      → P (Lit (countOf glass (lit (panel .sheet) font dark))) (dotsFrame glass (lit (panel .sheet) font dark))
+      → P (Lit (countOf (glassOf panel) (lit (panel .sheet) font dark))) (dotsFrame (glassOf panel) (lit (panel .sheet) font dark))
       → P (paintedOf panel font dark frame) (frameAfter panel font dark frame)
-  painting-is P unsound size painted = by (not (soundPanel panel)) (not (eqb (length font) fontSize)) (not (eqb (length frame) (glass .size)))
+  painting-is P unsound size painted = by (not (soundPanel panel)) (not (eqb (length font) fontSize)) (not (eqb (length frame) (glassOf panel .size)))
     where
       by : (p q t : Bool)
-          → P (pick p Unsound (pick q Size (pick t Size (Lit (countOf glass (lit (panel .sheet) font dark))))))
-          (pick p frame (pick q frame (pick t frame (dotsFrame glass (lit (panel .sheet) font dark)))))
+          → P (pick p Unsound (pick q Size (pick t Size (Lit (countOf (glassOf panel) (lit (panel .sheet) font dark))))))
+          (pick p frame (pick q frame (pick t frame (dotsFrame (glassOf panel) (lit (panel .sheet) font dark)))))
       by true q t = unsound
       by false true t = size
       by false false true = size
@@ -109,23 +110,23 @@ module _ (panel : Panel) (font : List ℕ) (dark : Bool) (frame : List ℕ) wher
 
   -- a painting that goes well shows a dot exactly where it is lit, and answers the number of those dots
   pub painted-dots : paintPaper (paintedOf panel font dark frame) .number ≡ none
-      → (paintPaper (paintedOf panel font dark frame) .dots ≡ countOf glass (lit (panel .sheet) font dark))
-      × ((r x : ℕ) → r < glass .rows → x < glass .cols → dot glass (frameAfter panel font dark frame) r x ≡ one (lit (panel .sheet) font dark r x))
+      → (paintPaper (paintedOf panel font dark frame) .dots ≡ countOf (glassOf panel) (lit (panel .sheet) font dark))
+      × ((r x : ℕ) → r < glassOf panel .rows → x < glassOf panel .cols → dot (glassOf panel) (frameAfter panel font dark frame) r x ≡ one (lit (panel .sheet) font dark r x))
   painted-dots =
       painting-is
       (λ a f. paintPaper a .number ≡ none
-      → (paintPaper a .dots ≡ countOf glass (lit (panel .sheet) font dark))
-      × ((r x : ℕ) → r < glass .rows → x < glass .cols → dot glass f r x ≡ one (lit (panel .sheet) font dark r x)))
+      → (paintPaper a .dots ≡ countOf (glassOf panel) (lit (panel .sheet) font dark))
+      × ((r x : ℕ) → r < glassOf panel .rows → x < glassOf panel .cols → dot (glassOf panel) f r x ≡ one (lit (panel .sheet) font dark r x)))
       (λ e. absurd (let z : _≡_ {A = ℕ} 0 1 = cc in omega arith)) (λ e. absurd (let z : _≡_ {A = ℕ} 0 1 = cc in omega arith))
-      (λ _. (refl, dot-frame glass (lit (panel .sheet) font dark)))
+      (λ _. (refl, dot-frame (glassOf panel) (lit (panel .sheet) font dark)))
 
   -- and read dot by dot it is the picture
-  pub painted-lit : paintPaper (paintedOf panel font dark frame) .number ≡ none → (r x : ℕ) → r < glass .rows → x < glass .cols
-      → litAt (frameAfter panel font dark frame) r x ≡ lit (panel .sheet) font dark r x
+  pub painted-lit : paintPaper (paintedOf panel font dark frame) .number ≡ none → (r x : ℕ) → r < glassOf panel .rows → x < glassOf panel .cols
+      → litAt (panel .sheet .registers .chip) (frameAfter panel font dark frame) r x ≡ lit (panel .sheet) font dark r x
   painted-lit h r x p q =
-      painting-is (λ a f. paintPaper a .number ≡ none → litAt f r x ≡ lit (panel .sheet) font dark r x)
+      painting-is (λ a f. paintPaper a .number ≡ none → litAt (panel .sheet .registers .chip) f r x ≡ lit (panel .sheet) font dark r x)
       (λ e. absurd (let z : _≡_ {A = ℕ} 0 1 = cc in omega arith)) (λ e. absurd (let z : _≡_ {A = ℕ} 0 1 = cc in omega arith))
-      (λ _. rw (eq-eqb _ _ (length-frame glass (lit (panel .sheet) font dark)), lt-leb _ _ p, lt-leb _ _ q, dot-frame glass (lit (panel .sheet) font dark) r x p q)
+      (λ _. rw (eq-eqb _ _ (length-frame (glassOf panel) (lit (panel .sheet) font dark)), lt-leb _ _ p, lt-leb _ _ q, dot-frame (glassOf panel) (lit (panel .sheet) font dark) r x p q)
       (one-eqb (lit (panel .sheet) font dark r x)))
       h
     where

@@ -1,5 +1,5 @@
--- The rows that a position shows, way by way, and that their dots are the lit ones.
-use Prim.Native.Nat.{ℕ, suc, zero, _+_, _-_, _*_, _%_, _≤_, _<_}
+-- The rows that a position of a line shows, way by way, and that their dots are the lit ones.
+use Prim.Native.Nat.{ℕ, suc, zero, _+_, _-_, _*_, _/_, _%_, _≤_, _<_}
 use mathlib.Core.Path.{_≡_, refl, sym, ap, ap₂, _∙_}
 use mathlib.Core.Bool.{Bool, true, false, not, _&&_, _||_, and-false, or-true, or-false}
 use mathlib.Core.List.{List, []}
@@ -16,54 +16,55 @@ use Rattle.dots.specs.laws.BitLaws.{bit-lt, one-bit, bit-of-zero}
 use Rattle.dots.specs.Table.{sum, table}
 use Rattle.dots.specs.laws.TableLaws.{getD-table, length-table, sum-le}
 use Rattle.dots.specs.laws.PartsLaws.{part-back, place-back}
-use Rattle.dots.specs.engine.Cells.{blockSum}
+use Rattle.dots.specs.engine.Cells.{blockSum, lineSum}
+use Rattle.chip.specs.Sizes.{positions}
 use Rattle.chip.specs.Address.{pattern, readPattern}
 use Rattle.chip.specs.declared.sheet.Sheet.{Sheet}
 use Rattle.picture.specs.Pattern.{tall, wide, patterns, fontStart, patternRow, glyphRow, patternOf, patternsOf, glyphOf, shapeOf}
-use Rattle.picture.specs.Cursor.{positionOf}
+use Rattle.picture.specs.Cursor.{cursorHere}
 use Rattle.picture.specs.Picture.{codeAt, shapeAt, cursorRow, lit}
-use Rattle.picture.specs.engine.Shown.{full, rowDot, cellDot, lineDot, shapeFrom, shownOf}
+use Rattle.picture.specs.engine.Shown.{full, rowDot, cellDot, pageDot, shapeFrom, shownOf}
 
 -- the panel's own four patterns give what pattern memory does
-pub shape-from : (s : Sheet) (font : List ℕ) (p : ℕ) (own : List (List ℕ)) (code : ℕ) (rows : List ℕ)
-    → own ≡ patternsOf (s .pattern) → code ≡ codeAt s p → rows ≡ shapeFrom own font code → rows ≡ shapeAt s font p
-shape-from s font p own code rows eo ec er =
+pub shape-from : (s : Sheet) (font : List ℕ) (l p : ℕ) (own : List (List ℕ)) (code : ℕ) (rows : List ℕ)
+    → own ≡ patternsOf (s .pattern) → code ≡ codeAt s l p → rows ≡ shapeFrom own font code → rows ≡ shapeAt s font l p
+shape-from s font l p own code rows eo ec er =
     er ∙ ap (λ (o : List (List ℕ)). shapeFrom o font code) eo ∙ ap (shapeFrom (patternsOf (s .pattern)) font) ec
-    ∙ ap (λ (l : List ℕ). pick (ltb (codeAt s p) fontStart) l (glyphOf font (codeAt s p))) (own-pattern (s .pattern) (codeAt s p))
+    ∙ ap (λ (shape : List ℕ). pick (ltb (codeAt s l p) fontStart) shape (glyphOf font (codeAt s l p))) (own-pattern (s .pattern) (codeAt s l p))
   where
     own-pattern : (memory : List ℕ) (code : ℕ) → getD (patternsOf memory) (code % patterns) [] ≡ patternOf memory code
     own-pattern memory code =
         getD-table (patternOf memory) patterns (code % patterns) [] (omega arith)
         ∙ ap (λ (n : ℕ). table (λ r. readPattern (pattern (tall * n + r)) memory) tall) (mod-mod code patterns)
 
-module _ (s : Sheet) (font : List ℕ) (dark : Bool) (p : ℕ) where
-  abbrev cursorAt : ℕ
-  cursorAt = positionOf (s .registers .address) (s .registers .shift)
+module _ (s : Sheet) (font : List ℕ) (dark : Bool) (l p : ℕ) where
+  abbrev away : Bool
+  away = not (cursorHere (s .registers) l p)
 
-  pub shown-off : not (s .registers .on) ≡ true → replicate tall 0 ≡ shownOf s font dark p
+  pub shown-off : not (s .registers .on) ≡ true → replicate tall 0 ≡ shownOf s font dark l p
   unfolding shownOf
   shown-off d = rw d
 
-  pub shown-away : not (s .registers .on) ≡ false → (p ≡ cursorAt → ⊥) → shapeAt s font p ≡ shownOf s font dark p
+  pub shown-away : not (s .registers .on) ≡ false → away ≡ true → shapeAt s font l p ≡ shownOf s font dark l p
   unfolding shownOf
-  shown-away d h = rw (d, ne-eqb p cursorAt h)
+  shown-away d h = rw (d, h)
 
-  pub shown-blink : not (s .registers .on) ≡ false → p ≡ cursorAt → (s .registers .blink && dark) ≡ true
-      → replicate tall full ≡ shownOf s font dark p
+  pub shown-blink : not (s .registers .on) ≡ false → away ≡ false → (s .registers .blink && dark) ≡ true
+      → replicate tall full ≡ shownOf s font dark l p
   unfolding shownOf
-  shown-blink d h b = rw (d, eq-eqb p cursorAt h, b)
+  shown-blink d h b = rw (d, h, b)
 
-  pub shown-under : not (s .registers .on) ≡ false → p ≡ cursorAt → (s .registers .blink && dark) ≡ false → s .registers .cursor ≡ true
-      → set (shapeAt s font p) cursorRow full ≡ shownOf s font dark p
+  pub shown-under : not (s .registers .on) ≡ false → away ≡ false → (s .registers .blink && dark) ≡ false → s .registers .cursor ≡ true
+      → set (shapeAt s font l p) cursorRow full ≡ shownOf s font dark l p
   unfolding shownOf
-  shown-under d h b u = rw (d, eq-eqb p cursorAt h, b, u)
+  shown-under d h b u = rw (d, h, b, u)
 
-  pub shown-bare : not (s .registers .on) ≡ false → p ≡ cursorAt → (s .registers .blink && dark) ≡ false → s .registers .cursor ≡ false
-      → shapeAt s font p ≡ shownOf s font dark p
+  pub shown-bare : not (s .registers .on) ≡ false → away ≡ false → (s .registers .blink && dark) ≡ false → s .registers .cursor ≡ false
+      → shapeAt s font l p ≡ shownOf s font dark l p
   unfolding shownOf
-  shown-bare d h b u = rw (d, eq-eqb p cursorAt h, b, u)
+  shown-bare d h b u = rw (d, h, b, u)
 
--- a row has no more lit dots than dots, a cell no more than its rows have
+-- a row has no more lit dots than dots, a cell no more than its rows have, a line no more than its cells
 few-dot : (row c : ℕ) → rowDot row c ≤ 1
 few-dot row c = omega arith
 
@@ -72,6 +73,10 @@ few-row rows i = sum-le (cellDot rows i) 1 wide (few-dot (getD rows i 0))
 
 pub few-cell : (rows : List ℕ) → blockSum tall wide (cellDot rows) ≤ tall * wide
 few-cell rows = sum-le (λ i. sum (cellDot rows i) wide) wide tall (few-row rows)
+
+pub few-line : (s : Sheet) (font : List ℕ) (dark : Bool) (l : ℕ) → lineSum tall wide positions (pageDot s font dark l) ≤ positions * (tall * wide)
+few-line s font dark l =
+    sum-le (λ p. blockSum tall wide (pageDot s font dark l p)) (tall * wide) positions (λ p. few-cell (shownOf s font dark l p))
 
 all-five : (j : ℕ) → j < wide → bit full j ≡ 1
 all-five zero h = refl
@@ -113,17 +118,18 @@ module _ (shape : List ℕ) (i j : ℕ) (long : length shape ≡ tall) (p : i < 
   cell-dot true true false false = simp or-false (sym bare)
 
 -- the dots of the rows shown are the lit dots
-pub shown-lit : (s : Sheet) (font : List ℕ) (dark : Bool) (p i c : ℕ) → i < tall → c < wide
-    → lineDot s font dark p i c ≡ one (lit s font dark i (p * wide + c))
+pub shown-lit : (s : Sheet) (font : List ℕ) (dark : Bool) (l p i c : ℕ) → i < tall → c < wide
+    → pageDot s font dark l p i c ≡ one (lit s font dark (l * tall + i) (p * wide + c))
 unfolding lit shownOf
-shown-lit s font dark p i c hi hc =
-    cell-dot (shapeAt s font p) i (wide - 1 - c) (length-shape (s .pattern) font (codeAt s p)) hi (omega arith) (s .registers .on)
-    (eqb p (positionOf (s .registers .address) (s .registers .shift))) (s .registers .blink && dark) (s .registers .cursor)
-    ∙ sym (ap₂ (λ (q k : ℕ). one (dotAt s font dark i q k)) (part-back wide p c hc) (place-back wide p c hc))
+shown-lit s font dark l p i c hi hc =
+    cell-dot (shapeAt s font l p) i (wide - 1 - c) (length-shape (s .pattern) font (codeAt s l p)) hi (omega arith) (s .registers .on)
+    (cursorHere (s .registers) l p) (s .registers .blink && dark) (s .registers .cursor)
+    ∙ sym (ap₂ (λ (m j : ℕ). one (dotAt m j ((p * wide + c) / wide) ((p * wide + c) % wide))) (part-back tall l i hi) (place-back tall l i hi)
+    ∙ ap₂ (λ (q k : ℕ). one (dotAt l i q k)) (part-back wide p c hc) (place-back wide p c hc))
   where
-    dotAt : Sheet → List ℕ → Bool → ℕ → ℕ → ℕ → Bool
-    dotAt s font dark i q k =
+    dotAt : ℕ → ℕ → ℕ → ℕ → Bool
+    dotAt m j q k =
         s .registers .on
-        && (eqb (bit (getD (shapeAt s font q) i 0) (wide - 1 - k)) 1
-        || s .registers .cursor && eqb q (positionOf (s .registers .address) (s .registers .shift)) && eqb i cursorRow
-        || s .registers .blink && dark && eqb q (positionOf (s .registers .address) (s .registers .shift)))
+        && (eqb (bit (getD (shapeAt s font m q) j 0) (wide - 1 - k)) 1
+        || s .registers .cursor && cursorHere (s .registers) m q && eqb j cursorRow
+        || s .registers .blink && dark && cursorHere (s .registers) m q)

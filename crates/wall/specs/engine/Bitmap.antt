@@ -5,6 +5,6 @@ use mathlib.Core.List.{List}
 use Rattle.dots.specs.Bit.{one}
 use Rattle.picture.specs.Frame.{litAt}
 
-pub record DotBit (f : List ℕ) (r x bit : ℕ) : Type 0 where
-  pub is : bit ≡ one (litAt f r x)
+pub record DotBit (chip : ℕ) (f : List ℕ) (r x bit : ℕ) : Type 0 where
+  pub is : bit ≡ one (litAt chip f r x)
   pub small : bit < 2

@@ -1,20 +1,23 @@
-use borrow.Author.Needs.{needs}
 use native.Mathlib.Omega.{arith}
 use borrow.Author.Tests.{lt-ltb, le-ltb}
+use borrow.Author.Needs.{needs}
 use Rattle.chip.proofs.instruction.decode.Statement.{statement}
 use Rattle.chip.proofs.instruction.decode.Tie as tie
 
-cast-t14 : tie.Need-cast-t14
-cast-t14 c = search needs
+cast-t15 : tie.Need-cast-t15
+cast-t15 c = search needs
 
-rem-t15 : tie.Need-rem-t15
-rem-t15 c = search needs
+rem-t16 : tie.Need-rem-t16
+rem-t16 c = search needs
 
-cast-t18 : tie.Need-cast-t18
-cast-t18 c = search needs
+places-requires : tie.Need-places-requires
+places-requires c κs = search needs
 
-rem-t19 : tie.Need-rem-t19
-rem-t19 c = search needs
+cast-t20 : tie.Need-cast-t20
+cast-t20 c = search needs
+
+rem-t21 : tie.Need-rem-t21
+rem-t21 c = search needs
 
 returns : tie.Need-returns
 returns c = let x = c .before .args .code in simp (lt-ltb x 1 (omega arith))
@@ -44,16 +47,17 @@ returns-9 : tie.Need-returns-9
 returns-9 c = let x = c .before .before .before .before .before .before .before .before .args .code in simp (le-ltb x 1 (omega arith), le-ltb x 2 (omega arith), le-ltb x 4 (omega arith), le-ltb x 8 (omega arith), le-ltb x 16 (omega arith), le-ltb x 24 (omega arith), le-ltb x 32 (omega arith), le-ltb x 64 (omega arith), lt-ltb x 128 (omega arith))
 
 returns-10 : tie.Need-returns-10
-returns-10 c = let x = c .before .before .before .before .before .before .before .before .args .code in simp (le-ltb x 1 (omega arith), le-ltb x 2 (omega arith), le-ltb x 4 (omega arith), le-ltb x 8 (omega arith), le-ltb x 16 (omega arith), le-ltb x 24 (omega arith), le-ltb x 32 (omega arith), le-ltb x 64 (omega arith), le-ltb x 128 (omega arith))
+returns-10 c = let x = c .before .before .before .before .before .before .before .before .before .args .code in simp (c .places .ensures .is, le-ltb x 1 (omega arith), le-ltb x 2 (omega arith), le-ltb x 4 (omega arith), le-ltb x 8 (omega arith), le-ltb x 16 (omega arith), le-ltb x 24 (omega arith), le-ltb x 32 (omega arith), le-ltb x 64 (omega arith), le-ltb x 128 (omega arith))
 
 pub decode-spec : {M : Type 1} → statement M
 decode-spec =
     tie.close
     (tie.spec
-    cast-t14
-    rem-t15
-    cast-t18
-    rem-t19
+    cast-t15
+    rem-t16
+    places-requires
+    cast-t20
+    rem-t21
     returns
     returns-2
     returns-3

@@ -6,8 +6,8 @@ use native.Mathlib.Omega.{arith}
 use borrow.Author.Tests.{le-leb, lt-leb}
 use lib.ListN.{length, drop}
 use Rattle.chip.specs.Sizes.{patternSize}
-use Rattle.chip.specs.Sound.{patternFits}
-use Rattle.chip.specs.laws.SoundLaws.{fits-here, fits-end}
+use Rattle.chip.specs.Sound.{sixBits, patternFits}
+use Rattle.chip.specs.laws.SoundLaws.{faultless-here, faultless-end}
 use Rattle.chip.proofs.sheet.pattern_fits.Statement.{statement}
 use Rattle.chip.proofs.sheet.pattern_fits.Tie as tie
 
@@ -27,7 +27,7 @@ array-read-if1 c = search needs
 returns : tie.Need-returns Inv-loop μ-loop
 returns c =
     let l = c .before .before .loop in
-    rw (← l .inv .2, fits-here (c .before .before .before .args .t1) (l .i) (omega arith), le-leb _ _ (c .if1 .taken))
+    rw (← l .inv .2, faultless-here sixBits (c .before .before .before .args .t1) (l .i) (omega arith), le-leb _ _ (c .if1 .taken))
 
 add-i : tie.Need-add-i Inv-loop μ-loop
 add-i c = omega arith
@@ -38,12 +38,12 @@ loop-less c = omega arith
 loop-again : tie.Need-loop-again Inv-loop μ-loop
 loop-again c =
     let l = c .before .before .loop in
-    (l .inv .0, omega arith, rw (← l .inv .2, fits-here (c .before .before .before .args .t1) (l .i) (omega arith), lt-leb _ _ (c .if1 .left)))
+    (l .inv .0, omega arith, rw (← l .inv .2, faultless-here sixBits (c .before .before .before .args .t1) (l .i) (omega arith), lt-leb _ _ (c .if1 .left)))
 
 returns-2 : tie.Need-returns-2 Inv-loop μ-loop
 returns-2 c =
     let l = c .before .loop in
-    rw (← l .inv .2, fits-end (c .before .before .args .t1) (l .i) (omega arith))
+    rw (← l .inv .2, faultless-end sixBits (c .before .before .args .t1) (l .i) (omega arith))
 
 pub pattern-fits-spec : {M : Type 1} → statement M
 pattern-fits-spec =

@@ -3,7 +3,7 @@ use mathlib.Core.Path.{sym, ap, _∙_}
 use mathlib.Core.Bool.{not}
 use borrow.Author.Needs.{needs}
 use denote.Ref.{now}
-use Rattle.picture.specs.laws.PaintLaws.{paints-unsound, paints-font, paints-size, paints-line}
+use Rattle.picture.specs.laws.PaintLaws.{paints-unsound, paints-font, paints-size, paints-lines}
 use Rattle.picture.proofs.paint.paint.Statement.{statement}
 use Rattle.picture.proofs.paint.paint.Tie as tie
 
@@ -20,16 +20,21 @@ returns-2 c =
     let a = c .before .before .before .before .before .args in
     paints-font (a .panel) (now (a .font)) (a .dark) (now (a .frame)) (sym (ap not (c .before .before .sound .ensures)) ∙ c .before .if1 .left) (c .if2 .taken)
 
+frame-size-requires : tie.Need-frame-size-requires
+frame-size-requires c κs = search needs
+
 returns-3 : tie.Need-returns-3
 returns-3 c =
-    let a = c .before .before .before .before .before .before .args in
-    paints-size (a .panel) (now (a .font)) (a .dark) (now (a .frame)) (sym (ap not (c .before .before .before .sound .ensures)) ∙ c .before .before .if1 .left) (c .before .if2 .left) (c .if3 .taken)
+    let tests = c .before .before .before in
+    let a = tests .before .before .before .before .before .args in
+    paints-size (a .panel) (now (a .font)) (a .dark) (now (a .frame)) (sym (ap not (tests .before .before .sound .ensures)) ∙ tests .before .if1 .left) (tests .if2 .left)
+    (λ e. c .if3 .taken (e ∙ sym (c .before .frame-size .ensures .is)))
 
 clear-requires : tie.Need-clear-requires
-clear-requires c κs = search needs
+clear-requires c κs = c .before .if3 .left ∙ c .before .before .frame-size .ensures .is
 
-put-line-requires : tie.Need-put-line-requires
-put-line-requires c κs = search needs
+put-lines-requires : tie.Need-put-lines-requires
+put-lines-requires c κs = search needs
 
 same-length : tie.Need-same-length
 same-length c = search needs
@@ -37,11 +42,12 @@ same-length c = search needs
 returns-4 : tie.Need-returns-4
 returns-4 c =
     let cleared = c .before .before .before .before .before .before in
-    let tests = cleared .before .before .before in
-    let a = tests .before .before .before .before .before .before .args in
-    paints-line (a .panel) (now (a .font)) (a .dark) (now (a .frame))
-    (sym (ap not (tests .before .before .before .sound .ensures)) ∙ tests .before .before .if1 .left) (tests .before .if2 .left) (tests .if3 .left)
-    _ _ _ (cleared .clear .ensures) (c .before .before .put-line .ensures)
+    let sized = cleared .before .before in
+    let tests = sized .before .before .before in
+    let a = tests .before .before .before .before .before .args in
+    paints-lines (a .panel) (now (a .font)) (a .dark) (now (a .frame))
+    (sym (ap not (tests .before .before .sound .ensures)) ∙ tests .before .if1 .left) (tests .if2 .left) (sized .if3 .left ∙ sized .before .frame-size .ensures .is)
+    _ _ _ (cleared .clear .ensures) (c .before .before .put-lines .ensures)
 
 pub paint-spec : {M : Type 1} → statement M
 paint-spec =
@@ -50,8 +56,9 @@ paint-spec =
     sound-requires
     returns
     returns-2
+    frame-size-requires
     returns-3
     clear-requires
-    put-line-requires
+    put-lines-requires
     same-length
     returns-4)

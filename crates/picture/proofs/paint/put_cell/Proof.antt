@@ -14,14 +14,14 @@ use Rattle.picture.specs.laws.ShownLaws.{few-row}
 use Rattle.picture.proofs.paint.put_cell.Statement.{statement}
 use Rattle.picture.proofs.paint.put_cell.Tie as tie
 
-abbrev step : List ℕ → ℕ → ℕ → ℕ → List ℕ → List ℕ
-step rows top left i = strip glass wide (cellDot rows i) (top + i) left
+abbrev step : ℕ → List ℕ → ℕ → ℕ → ℕ → List ℕ → List ℕ
+step chip rows top left i = strip (glass chip) wide (cellDot rows i) (top + i) left
 
 abbrev Inv-loop : tie.InvT-loop
-Inv-loop frame₀ top left rows lit₀ i₀ frame lit i = Through (step rows top left) (λ i. sum (cellDot rows i) wide) tall frame₀ frame lit i
+Inv-loop chip frame₀ top left rows lit₀ i₀ frame lit i = Through (step chip rows top left) (λ i. sum (cellDot rows i) wide) tall frame₀ frame lit i
 
 abbrev μ-loop : tie.MeasureT-loop
-μ-loop frame₀ top left rows lit₀ i₀ frame lit i = tall - i
+μ-loop chip frame₀ top left rows lit₀ i₀ frame lit i = tall - i
 
 loop-holds : tie.Need-loop-holds Inv-loop μ-loop
 loop-holds c = through-start _ _ _ _
@@ -35,12 +35,13 @@ array-read-put-row c = search needs
 put-row-requires : tie.Need-put-row-requires Inv-loop μ-loop
 put-row-requires c κs =
     let l = c .before .before .loop in
-    (through-long _ _ _ _ (λ i f. length-strip glass tall wide _ _ _ f) _ _ _ (l .inv) ∙ c .before .before .before .before .pre .0, omega arith, omega arith)
+    let b = c .before .before .before .before in
+    (through-long _ _ _ _ (λ i f. length-strip (glass (b .args .chip)) tall wide _ _ _ f) _ _ _ (l .inv) ∙ b .pre .0, omega arith, omega arith)
 
 add-lit : tie.Need-add-lit Inv-loop μ-loop
 add-lit c =
     let l = c .before .before .before .before .before .loop in
-    omega (arith, through-few _ _ _ _ wide (few-row (c .before .before .before .before .before .before .before .args .t4)) _ _ _ (through-next _ _ _ _ _ _ _ _ _ (l .inv) (omega arith) (c .before .before .put-row .ensures)))
+    omega (arith, through-few _ _ _ _ wide (few-row (c .before .before .before .before .before .before .before .args .t5)) _ _ _ (through-next _ _ _ _ _ _ _ _ _ (l .inv) (omega arith) (c .before .before .put-row .ensures)))
 
 add-i : tie.Need-add-i Inv-loop μ-loop
 add-i c = search needs
@@ -54,7 +55,7 @@ loop-again c =
     through-next _ _ _ _ _ _ _ _ _ (l .inv) (omega arith) (c .before .before .put-row .ensures)
 
 same-length : tie.Need-same-length Inv-loop μ-loop
-same-length c = through-long _ _ _ _ (λ i f. length-strip glass tall wide _ _ _ f) _ _ _ (c .before .loop .inv)
+same-length c = through-long _ _ _ _ (λ i f. length-strip (glass (c .before .before .before .args .chip)) tall wide _ _ _ f) _ _ _ (c .before .loop .inv)
 
 returns : tie.Need-returns Inv-loop μ-loop
 returns c = through-end _ _ _ _ _ _ _ (c .before .loop .inv) (omega arith)

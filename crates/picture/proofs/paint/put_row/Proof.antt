@@ -16,21 +16,21 @@ use Rattle.picture.specs.engine.Shown.{rowDot}
 use Rattle.picture.proofs.paint.put_row.Statement.{statement}
 use Rattle.picture.proofs.paint.put_row.Tie as tie
 
-abbrev step : ℕ → ℕ → ℕ → ℕ → List ℕ → List ℕ
-step row left dots c f = put glass f row (left + c) (rowDot dots c)
+abbrev step : ℕ → ℕ → ℕ → ℕ → ℕ → List ℕ → List ℕ
+step chip row left dots c f = put (glass chip) f row (left + c) (rowDot dots c)
 
 mask : (a : ℕ) → bitAnd a 1 ≡ a % 2
 mask a = and-mask a 1
 
 -- the frame keeps its length
-long : (row left dots c : ℕ) (f₀ f : List ℕ) → f ≡ inOrder (step row left dots) c f₀ → length f ≡ length f₀
-long row left dots c f₀ f e = ap length e ∙ length-strip glass tall c (rowDot dots) row left f₀
+long : (chip row left dots c : ℕ) (f₀ f : List ℕ) → f ≡ inOrder (step chip row left dots) c f₀ → length f ≡ length f₀
+long chip row left dots c f₀ f e = ap length e ∙ length-strip (glass chip) tall c (rowDot dots) row left f₀
 
 abbrev Inv-loop : tie.InvT-loop
-Inv-loop frame₀ row left dots c₀ frame c = (frame ≡ inOrder (step row left dots) c frame₀) × (c ≤ wide)
+Inv-loop chip frame₀ row left dots c₀ frame c = (frame ≡ inOrder (step chip row left dots) c frame₀) × (c ≤ wide)
 
 abbrev μ-loop : tie.MeasureT-loop
-μ-loop frame₀ row left dots c₀ frame c = wide - c
+μ-loop chip frame₀ row left dots c₀ frame c = wide - c
 
 loop-holds : tie.Need-loop-holds Inv-loop μ-loop
 loop-holds c = (sym (in-order-none _ _), omega arith)
@@ -54,7 +54,7 @@ put-dot-requires : tie.Need-put-dot-requires Inv-loop μ-loop
 put-dot-requires c κs =
     let l = c .before .before .loop in
     let b = c .before .before .before .before in
-    (long (b .args .row) (b .args .left) (b .args .dots) (l .c) _ _ (l .inv .0) ∙ b .pre .0, b .pre .1, omega arith, simp mask (omega arith))
+    (long (b .args .chip) (b .args .row) (b .args .left) (b .args .dots) (l .c) _ _ (l .inv .0) ∙ b .pre .0, b .pre .1, omega arith, simp mask (omega arith))
 
 add-c : tie.Need-add-c Inv-loop μ-loop
 add-c c = search needs
@@ -66,7 +66,7 @@ loop-again : tie.Need-loop-again Inv-loop μ-loop
 loop-again c =
     let l = c .before .before .before .before .before .loop in
     let a = c .before .before .before .before .before .before .before .args in
-    (simp mask at (c .before .before .put-dot .ensures) ∙ ap (step (a .row) (a .left) (a .dots) (l .c)) (l .inv .0) ∙ sym (in-order-more (step (a .row) (a .left) (a .dots)) (l .c) _), omega arith)
+    (simp mask at (c .before .before .put-dot .ensures) ∙ ap (step (a .chip) (a .row) (a .left) (a .dots) (l .c)) (l .inv .0) ∙ sym (in-order-more (step (a .chip) (a .row) (a .left) (a .dots)) (l .c) _), omega arith)
 
 lit-in-requires : tie.Need-lit-in-requires Inv-loop μ-loop
 lit-in-requires c κs = search needs
@@ -75,14 +75,14 @@ same-length : tie.Need-same-length Inv-loop μ-loop
 same-length c =
     let l = c .before .before .loop in
     let a = c .before .before .before .before .args in
-    long (a .row) (a .left) (a .dots) (l .c) _ _ (l .inv .0)
+    long (a .chip) (a .row) (a .left) (a .dots) (l .c) _ _ (l .inv .0)
 
 returns : tie.Need-returns Inv-loop μ-loop
 returns c =
     let l = c .before .before .loop in
     let a = c .before .before .before .before .args in
     let e : l .c ≡ wide = omega arith in
-    record { frame = l .inv .0 ∙ ap (λ n. inOrder (step (a .row) (a .left) (a .dots)) n (now (a .frame))) e; tally = c .lit-in .ensures }
+    record { frame = l .inv .0 ∙ ap (λ n. inOrder (step (a .chip) (a .row) (a .left) (a .dots)) n (now (a .frame))) e; tally = c .lit-in .ensures }
 
 pub put-row-spec : {M : Type 1} → statement M
 put-row-spec =

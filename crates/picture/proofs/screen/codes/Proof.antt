@@ -1,5 +1,5 @@
--- The codes are filled from the front.
 use borrow.Author.Needs.{needs}
+-- The codes are filled from the front.
 use Prim.Native.Nat.{_-_}
 use mathlib.Core.Path.{refl}
 use native.Mathlib.Omega.{arith}
@@ -10,10 +10,10 @@ use Rattle.picture.proofs.screen.codes.Statement.{statement}
 use Rattle.picture.proofs.screen.codes.Tie as tie
 
 abbrev Inv-loop : tie.InvT-loop
-Inv-loop sheet codes₀ at₀ codes at = Filled (codeAt sheet) positions codes at
+Inv-loop sheet line codes₀ at₀ codes at = Filled (codeAt sheet line) positions codes at
 
 abbrev μ-loop : tie.MeasureT-loop
-μ-loop sheet codes₀ at₀ codes at = positions - at
+μ-loop sheet line codes₀ at₀ codes at = positions - at
 
 loop-holds : tie.Need-loop-holds Inv-loop μ-loop
 loop-holds c = fill-start _ _ _ refl

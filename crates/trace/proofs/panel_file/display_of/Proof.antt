@@ -1,5 +1,5 @@
 -- The memory is filled from the front.
-use Prim.Native.Nat.{_-_}
+use Prim.Native.Nat.{_+_, _-_}
 use mathlib.Core.Path.{refl}
 use native.Mathlib.Omega.{arith}
 use Rattle.dots.specs.laws.TableLaws.{Filled, fill-start, fill-step, fill-end}
@@ -10,13 +10,16 @@ use Rattle.trace.proofs.panel_file.display_of.Statement.{statement}
 use Rattle.trace.proofs.panel_file.display_of.Tie as tie
 
 abbrev Inv-loop : tie.InvT-loop
-Inv-loop bytes display₀ i₀ display i = Filled (byteIn bytes) displaySize display i
+Inv-loop bytes display₀ i₀ display i = Filled (λ i. byteIn bytes (1 + i)) displaySize display i
 
 abbrev μ-loop : tie.MeasureT-loop
 μ-loop bytes display₀ i₀ display i = displaySize - i
 
 loop-holds : tie.Need-loop-holds Inv-loop μ-loop
 loop-holds c = fill-start _ _ _ refl
+
+add-display : tie.Need-add-display Inv-loop μ-loop
+add-display c = search needs
 
 array-read-display : tie.Need-array-read-display Inv-loop μ-loop
 array-read-display c = search needs
@@ -43,6 +46,7 @@ display-of-spec =
     Inv-loop
     μ-loop
     loop-holds
+    add-display
     array-read-display
     array-write-display
     add-i

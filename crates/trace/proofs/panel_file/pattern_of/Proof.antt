@@ -10,7 +10,7 @@ use Rattle.trace.proofs.panel_file.pattern_of.Statement.{statement}
 use Rattle.trace.proofs.panel_file.pattern_of.Tie as tie
 
 abbrev Inv-loop : tie.InvT-loop
-Inv-loop bytes pattern₀ i₀ pattern i = Filled (λ i. byteIn bytes (displaySize + i)) patternSize pattern i
+Inv-loop bytes pattern₀ i₀ pattern i = Filled (λ i. byteIn bytes (1 + displaySize + i)) patternSize pattern i
 
 abbrev μ-loop : tie.MeasureT-loop
 μ-loop bytes pattern₀ i₀ pattern i = patternSize - i

@@ -3,9 +3,6 @@ use borrow.Author.Needs.{needs}
 use Rattle.wall.proofs.bitmap.bit.Statement.{statement}
 use Rattle.wall.proofs.bitmap.bit.Tie as tie
 
-slice-aggregate-lit-at : tie.Need-slice-aggregate-lit-at
-slice-aggregate-lit-at c = search needs
-
 lit-at-requires : tie.Need-lit-at-requires
 lit-at-requires c κs = search needs
 
@@ -16,4 +13,4 @@ returns-2 : tie.Need-returns-2
 returns-2 c = record { is = rw (← c .before .lit-at .ensures, c .if1 .left); small = omega arith }
 
 pub bit-spec : {M : Type 1} → statement M
-bit-spec = tie.close (tie.spec slice-aggregate-lit-at lit-at-requires returns returns-2)
+bit-spec = tie.close (tie.spec lit-at-requires returns returns-2)

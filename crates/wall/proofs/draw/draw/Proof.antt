@@ -1,23 +1,24 @@
-use Prim.Native.Nat.{_-_}
-use mathlib.Core.Path.{_≡_}
-use lib.ListN.{length}
-use Rattle.picture.specs.Frame.{glass}
-use Rattle.wall.specs.engine.Lines.{RowsShown}
 use borrow.Author.Needs.{needs}
+use Prim.Native.Nat.{_-_}
+use Rattle.picture.specs.Frame.{Rows}
+use Rattle.wall.specs.engine.Lines.{RowsShown}
 use Rattle.wall.proofs.draw.draw.Statement.{statement}
 use Rattle.wall.proofs.draw.draw.Tie as tie
 
 abbrev Inv-loop : tie.InvT-loop
-Inv-loop frame pairs page₀ end₀ shown row₀ page end row = (length frame ≡ glass .size) × RowsShown pairs shown
+Inv-loop chip frame pairs page₀ end₀ shown high row₀ page end row = RowsShown pairs shown × Rows chip high
 
 abbrev μ-loop : tie.MeasureT-loop
-μ-loop frame pairs page₀ end₀ shown row₀ page end row = glass .rows - row
+μ-loop chip frame pairs page₀ end₀ shown high row₀ page end row = high - row
 
 put-edge-requires : tie.Need-put-edge-requires Inv-loop μ-loop
 put-edge-requires c κs = search needs
 
 rows-shown-requires : tie.Need-rows-shown-requires Inv-loop μ-loop
 rows-shown-requires c κs = search needs
+
+rows-requires : tie.Need-rows-requires Inv-loop μ-loop
+rows-requires c κs = search needs
 
 loop-holds : tie.Need-loop-holds Inv-loop μ-loop
 loop-holds c = search needs
@@ -51,6 +52,7 @@ draw-spec =
     μ-loop
     put-edge-requires
     rows-shown-requires
+    rows-requires
     loop-holds
     put-line-requires
     add-row

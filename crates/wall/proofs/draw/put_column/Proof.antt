@@ -1,18 +1,14 @@
+use native.Mathlib.Omega.{arith}
+use Rattle.chip.specs.laws.SizesLaws.{lines-few}
 use borrow.Author.Needs.{needs}
 use Rattle.wall.proofs.draw.put_column.Statement.{statement}
 use Rattle.wall.proofs.draw.put_column.Tie as tie
 
-slice-aggregate-lit-at : tie.Need-slice-aggregate-lit-at
-slice-aggregate-lit-at c = search needs
-
 lit-at-requires : tie.Need-lit-at-requires
 lit-at-requires c κs = search needs
 
-slice-aggregate-lit-at-2 : tie.Need-slice-aggregate-lit-at-2
-slice-aggregate-lit-at-2 c = search needs
-
 add-lit-at : tie.Need-add-lit-at
-add-lit-at c = search needs
+add-lit-at c = omega (arith, lines-few (c .before .before .before .args .chip))
 
 lit-at-requires-2 : tie.Need-lit-at-requires-2
 lit-at-requires-2 c κs = search needs
@@ -21,7 +17,7 @@ put-pair-requires : tie.Need-put-pair-requires
 put-pair-requires c κs = search needs
 
 returns : tie.Need-returns
-returns c = rw (c .before .before .before .before .if1 .taken) (rw (c .before .before .lit-at2 .ensures, c .before .before .before .before .before .lit-at .ensures) at (c .put-pair .ensures))
+returns c = rw (c .before .before .before .if1 .taken) (rw (c .before .before .lit-at2 .ensures, c .before .before .before .before .lit-at .ensures) at (c .put-pair .ensures))
 
 mark-requires : tie.Need-mark-requires
 mark-requires c κs = search needs
@@ -39,9 +35,7 @@ pub put-column-spec : {M : Type 1} → statement M
 put-column-spec =
     tie.close
     (tie.spec
-    slice-aggregate-lit-at
     lit-at-requires
-    slice-aggregate-lit-at-2
     add-lit-at
     lit-at-requires-2
     put-pair-requires

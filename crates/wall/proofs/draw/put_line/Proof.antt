@@ -1,3 +1,4 @@
+use borrow.Author.Needs.{needs}
 use Prim.Native.Nat.{_-_, _≤_}
 use mathlib.Core.Path.{_≡_}
 use native.Mathlib.Omega.{arith}
@@ -6,15 +7,14 @@ use Rattle.wall.specs.Draw.{columnBytes, strung}
 use Rattle.wall.specs.laws.DrawLaws.{strung-none, strung-more}
 use Rattle.desk.specs.Page.{Puts}
 use Rattle.desk.specs.laws.PageLaws.{puts-then}
-use borrow.Author.Needs.{needs}
 use Rattle.wall.proofs.draw.put_line.Statement.{statement}
 use Rattle.wall.proofs.draw.put_line.Tie as tie
 
 abbrev Inv-loop : tie.InvT-loop
-Inv-loop page₀ at frame row pairs end₀ column₀ t9 page end column = Puts (strung (columnBytes pairs frame row) column) page₀ end₀ page end × (column ≤ glass .cols)
+Inv-loop page₀ at chip frame row pairs end₀ column₀ t10 page end column = Puts (strung (columnBytes chip pairs frame row) column) page₀ end₀ page end × (column ≤ glass chip .cols)
 
 abbrev μ-loop : tie.MeasureT-loop
-μ-loop page₀ at frame row pairs end₀ column₀ t9 page end column = glass .cols - column
+μ-loop page₀ at chip frame row pairs end₀ column₀ t10 page end column = glass chip .cols - column
 
 slice-aggregate-put : tie.Need-slice-aggregate-put Inv-loop μ-loop
 slice-aggregate-put c = search needs
@@ -46,7 +46,7 @@ put-requires-2 c κs = search needs
 returns : tie.Need-returns Inv-loop μ-loop
 returns c =
     let l = c .before .before .before .before .loop in
-    let e : l .column ≡ glass .cols = omega arith in
+    let e : l .column ≡ glass (c .before .before .before .before .before .before .before .before .before .args .chip) .cols = omega arith in
     puts-then _ _ _ _ _ _ _ _ (puts-then _ _ _ _ _ _ _ _ (c .before .before .before .before .before .put .ensures) (rw e at (l .inv .0))) (c .put2 .ensures)
 
 pub put-line-spec : {M : Type 1} → statement M

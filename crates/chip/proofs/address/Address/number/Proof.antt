@@ -1,3 +1,5 @@
+use native.Mathlib.Omega.{arith}
+use Rattle.chip.specs.laws.SizesLaws.{place-below}
 use borrow.Author.Needs.{needs}
 use Rattle.chip.proofs.address.Address.number.Statement.{statement}
 use Rattle.chip.proofs.address.Address.number.Tie as tie
@@ -8,8 +10,16 @@ enum-known-self c = search needs
 cast-result : tie.Need-cast-result
 cast-result c = search needs
 
+places-requires : tie.Need-places-requires
+places-requires c κs = search needs
+
+rem-result : tie.Need-rem-result
+rem-result c = search needs
+
 cast-result-2 : tie.Need-cast-result-2
-cast-result-2 c = search needs
+cast-result-2 c =
+    let h = place-below (c .before .before .before .before .before .args .chip) (c .before .before .before .self .given .0 .0 .0) in
+    record { fits = rw (c .places .ensures .is) (omega (arith, h)) }
 
 enum-known-self-2 : tie.Need-enum-known-self-2
 enum-known-self-2 c = search needs
@@ -21,7 +31,7 @@ cast-result-4 : tie.Need-cast-result-4
 cast-result-4 c = search needs
 
 returns : tie.Need-returns
-returns c = rw (c .before .before .self .given .1)
+returns c = rw (c .places .ensures .is, c .before .before .before .self .given .1)
 
 returns-2 : tie.Need-returns-2
 returns-2 c = rw (c .before .before .self2 .given .1)
@@ -32,6 +42,8 @@ number-spec =
     (tie.spec
     enum-known-self
     cast-result
+    places-requires
+    rem-result
     cast-result-2
     enum-known-self-2
     cast-result-3

@@ -2,12 +2,6 @@ use borrow.Author.Needs.{needs}
 use Rattle.chip.proofs.registers.Registers.shift_by_one.Statement.{statement}
 use Rattle.chip.proofs.registers.Registers.shift_by_one.Tie as tie
 
-cast-step-round : tie.Need-cast-step-round
-cast-step-round c = search needs
-
-sub-step-round : tie.Need-sub-step-round
-sub-step-round c = search needs
-
 step-round-requires : tie.Need-step-round-requires
 step-round-requires c κs = search needs
 
@@ -15,4 +9,4 @@ returns : tie.Need-returns
 returns c d p = rw (c .step-round .ensures)
 
 pub shift-by-one-spec : {M : Type 1} → statement M
-shift-by-one-spec = tie.close (tie.spec cast-step-round sub-step-round step-round-requires returns)
+shift-by-one-spec = tie.close (tie.spec step-round-requires returns)

@@ -18,7 +18,7 @@ free-requires c κs = search needs
 
 add-result : tie.Need-add-result
 add-result c =
-    omega (arith, c .before .before .number .ensures ∙ ap addressNumber (c .before .before .before .address .ensures), number-small (addressAt (c .before .before .before .before .args .self)))
+    omega (arith, c .before .before .number .ensures ∙ ap (addressNumber (c .before .before .before .before .args .self .chip)) (c .before .before .before .address .ensures), number-small (c .before .before .before .before .args .self .chip) (addressAt (c .before .before .before .before .args .self)))
 
 returns : tie.Need-returns
 returns c t d p = rw (c .before .before .number .ensures, c .before .before .before .address .ensures, ← c .before .free .ensures, c .if1 .taken)

@@ -1,0 +1,43 @@
+use borrow.Author.Needs.{needs}
+use mathlib.Core.Path.{sym, _∙_}
+use mathlib.Core.Bool.{true≢false}
+use Rattle.desk.specs.laws.ChipsLaws.{equal-same, other-same}
+use Rattle.desk.proofs.chips.chip_of.Statement.{statement}
+use Rattle.desk.proofs.chips.chip_of.Tie as tie
+
+slice-aggregate-same : tie.Need-slice-aggregate-same
+slice-aggregate-same c = search needs
+
+same-requires : tie.Need-same-requires
+same-requires c κs = search needs
+
+returns : tie.Need-returns
+returns c = rw (equal-same _ _ (c .before .same .ensures .0 (c .if1 .taken)))
+
+slice-aggregate-same-2 : tie.Need-slice-aggregate-same-2
+slice-aggregate-same-2 c = search needs
+
+same-requires-2 : tie.Need-same-requires-2
+same-requires-2 c κs = search needs
+
+returns-2 : tie.Need-returns-2
+returns-2 c =
+    let first = c .before .before .before in
+    rw (other-same _ _ (λ e. true≢false (sym (first .before .same .ensures .1 e) ∙ first .if1 .left)), equal-same _ _ (c .before .same2 .ensures .0 (c .if2 .taken)))
+
+returns-3 : tie.Need-returns-3
+returns-3 c =
+    let first = c .before .before .before in
+    rw (other-same _ _ (λ e. true≢false (sym (first .before .same .ensures .1 e) ∙ first .if1 .left)), other-same _ _ (λ e. true≢false (sym (c .before .same2 .ensures .1 e) ∙ c .if2 .left)))
+
+pub chip-of-spec : {M : Type 1} → statement M
+chip-of-spec =
+    tie.close
+    (tie.spec
+    slice-aggregate-same
+    same-requires
+    returns
+    slice-aggregate-same-2
+    same-requires-2
+    returns-2
+    returns-3)

@@ -1,0 +1,73 @@
+// The panel's picture, painted and shown.
+ghost use mathlib.Core.Path.{_≡_};
+ghost use lib.ListN.{length};
+ghost use Rattle.desk.specs.Bytes.{fileBytes};
+ghost use Rattle.picture.specs.Frame.{mostFrameSize};
+ghost use Rattle.picture.specs.Paint.{frameAfter};
+use crate::bitmap::write_bitmap;
+use crate::codes::show_codes;
+use crate::codes::show_cursor;
+use crate::codes::show_text;
+use crate::draw::draw;
+use chip::sizes::lines;
+use desk::bytes::Bytes;
+use desk::bytes::held;
+use mirror::panel::Panel;
+use picture::cursor::shown;
+use picture::frame::MOST_FRAME_SIZE;
+use picture::frame::frame_size;
+use picture::paint::paint;
+
+// How the glass is shown: as a bitmap or drawn, by marks or by blocks, with the blink dark or light.
+pub(crate) struct Wanted {
+    pub bitmap: bool,
+    pub marks: bool,
+    pub dark: bool,
+}
+
+// Paints the panel with a font.
+fn painted(panel: Panel, font: Bytes, dark: bool, frame: &mut [u8])
+    ensures { λ _. ⌜ now (frame .exit) ≡ frameAfter panel (fileBytes font) dark (now (frame .entry)) ⌝ }
+{
+    let dots = font.bytes;
+    let n = held(&dots, font.len);
+    paint(panel, &dots[..n], dark, frame);
+}
+
+// What stands beneath the drawing.
+fn show_beneath(panel: Panel) {
+    let sheet = panel.sheet;
+    let registers = sheet.registers;
+    let count = lines(registers.chip);
+    show_text(sheet, count);
+    show_codes(sheet, count);
+    show_cursor(shown(registers), count);
+}
+
+// Paints into a frame of the panel's chip, and shows it.
+fn show_lent(panel: Panel, font: Bytes, wanted: Wanted, frame: &mut [u8]) {
+    let sheet = panel.sheet;
+    let registers = sheet.registers;
+    painted(panel, font, wanted.dark, frame);
+    if wanted.bitmap {
+        write_bitmap(registers.chip, frame);
+    } else {
+        draw(registers.chip, frame, !wanted.marks);
+        show_beneath(panel);
+    }
+}
+
+// Room for the frame of either chip; no dot is lit.
+fn blank() -> [u8; MOST_FRAME_SIZE]
+    ensures { λ r. ⌜ mostFrameSize ≡ length r ⌝ }
+{
+    [0; MOST_FRAME_SIZE]
+}
+
+pub(crate) fn show_glass(panel: Panel, font: Bytes, wanted: Wanted) {
+    let sheet = panel.sheet;
+    let registers = sheet.registers;
+    let mut frame = blank();
+    let n = held(&frame, frame_size(registers.chip));
+    show_lent(panel, font, wanted, &mut frame[..n]);
+}
