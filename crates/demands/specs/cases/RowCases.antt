@@ -6,6 +6,7 @@ use mathlib.Core.Path.{_≡_}
 use mathlib.Core.Bool.{Bool}
 use mathlib.Core.List.{List, [], _∷_, _++_, map}
 use lib.ListN.{replicate}
+use Rattle.laws.specs.Pick.{pick}
 use Rattle.chip.specs.Address.{display, pattern}
 use Rattle.chip.specs.declared.address.Address.{Address}
 use Rattle.chip.specs.declared.address.Address.the-variants.{Display, Pattern}
@@ -95,15 +96,18 @@ down width = regs (shows 9) 6 0 1 1 0 1 width 5
 abbrev pub up : ℕ → Registers
 up width = regs (draws 22) 11 1 0 0 1 0 width 10
 
--- display memory of one line and of two, and pattern memory, with every place different; on one line the sixteen past the line are 20h
+-- display memory of a chip, and pattern memory, with every place different; on one line the sixteen places past the line are 20h
 abbrev firstLine : List ℕ
 firstLine = 0xf0 ∷ 0xe1 ∷ 0xd2 ∷ 0xc3 ∷ 0xb4 ∷ 0xa5 ∷ 0x96 ∷ 0x87 ∷ 0x78 ∷ 0x69 ∷ 0x5a ∷ 0x4b ∷ 0x3c ∷ 0x2d ∷ 0x1e ∷ 0x0f ∷ []
 
-abbrev pub codes : List ℕ
-codes = firstLine ++ replicate 16 0x20
+abbrev secondLine : List ℕ
+secondLine = 0x31 ∷ 0x42 ∷ 0x53 ∷ 0x64 ∷ 0x75 ∷ 0x86 ∷ 0x97 ∷ 0xa8 ∷ 0xb9 ∷ 0xca ∷ 0xdb ∷ 0xec ∷ 0xfd ∷ 0x0e ∷ 0x1f ∷ 0x20 ∷ []
 
-abbrev pub bothLines : List ℕ
-bothLines = firstLine ++ (0x31 ∷ 0x42 ∷ 0x53 ∷ 0x64 ∷ 0x75 ∷ 0x86 ∷ 0x97 ∷ 0xa8 ∷ 0xb9 ∷ 0xca ∷ 0xdb ∷ 0xec ∷ 0xfd ∷ 0x0e ∷ 0x1f ∷ 0x20 ∷ [])
+abbrev pub memoryOf : ℕ → List ℕ
+memoryOf chip = firstLine ++ pick (eqb chip 35) secondLine (replicate 16 0x20)
+
+abbrev pub codes : List ℕ
+codes = memoryOf 31
 
 abbrev pub dots : List ℕ
 dots =
@@ -127,13 +131,12 @@ panelWith registers display pattern busy half last =
       last = last;
     }
 
--- the same with the memories above
-abbrev pub panel : Registers → ℕ → Half → ℕ → Panel
-panel registers busy half last = panelWith registers codes dots busy half last
+-- the same of a chip, with the memories above; and of the chip with one line
+abbrev pub panelOn : ℕ → Registers → ℕ → Half → ℕ → Panel
+panelOn chip registers busy half last = panelWith (regsOf chip registers) (memoryOf chip) dots busy half last
 
--- and of the chip with two lines, with registers of its own
-abbrev pub panelOnTwo : Registers → ℕ → Half → ℕ → Panel
-panelOnTwo registers busy half last = panelWith (regsOf 35 registers) bothLines dots busy half last
+abbrev pub panel : Registers → ℕ → Half → ℕ → Panel
+panel registers busy half last = panelOn 31 registers busy half last
 
 -- what waits: a half that was held, and one that was ignored, with its RS and R/W
 abbrev pub held : ℕ → ℕ → ℕ → Half
