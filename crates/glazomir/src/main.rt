@@ -49,13 +49,14 @@ fn print_counts(run: Run) {
     let counts = run.counts;
     line(b"records ", run.records);
     line(b"taken ", counts[0]);
-    line(b"held ", counts[1]);
-    line(b"status ", counts[2]);
-    line(b"ignored ", counts[3]);
-    line(b"torn ", counts[4]);
-    line(b"back ", counts[5]);
-    line(b"bad ", counts[6]);
-    line(b"none ", counts[7]);
+    line(b"doubtful ", counts[1]);
+    line(b"held ", counts[2]);
+    line(b"status ", counts[3]);
+    line(b"ignored ", counts[4]);
+    line(b"torn ", counts[5]);
+    line(b"back ", counts[6]);
+    line(b"bad ", counts[7]);
+    line(b"none ", counts[8]);
     line(b"cut ", run.cut as u64);
 }
 

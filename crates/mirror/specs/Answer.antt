@@ -1,12 +1,14 @@
--- The numbers of the answers to a record (document 01, "Answer numbers").
-use Prim.Native.Nat.{ℕ}
-use lib.Dec.{eqb}
+-- The numbers of the answers to a record (document 01, "Answer numbers"; doubtful, document 02, wish 2).
+use Prim.Native.Nat.{ℕ, _+_}
+use mathlib.Core.Bool.{Bool, _||_}
+use lib.Dec.{eqb, ltb}
 use Rattle.laws.specs.Pick.{pick}
 use Rattle.mirror.specs.declared.answer.Answer.{Answer}
-use Rattle.mirror.specs.declared.answer.Answer.the-variants.{Taken, Held, Status, Ignored, Torn, Back, Bad, Nothing, Cut, Unsound}
+use Rattle.mirror.specs.declared.answer.Answer.the-variants.{Taken, Doubtful, Held, Status, Ignored, Torn, Back, Bad, Nothing, Cut, Unsound}
 
 abbrev pub numberOf : Answer → ℕ
 numberOf Taken = 0
+numberOf Doubtful = 11
 numberOf Held = 1
 numberOf Status = 2
 numberOf Ignored = 3
@@ -28,11 +30,25 @@ answerOf n =
     (pick (eqb n 5) Back
     (pick (eqb n 6) Bad
     (pick (eqb n 7) Nothing
-    (pick (eqb n 8) Cut Unsound))))))))
+    (pick (eqb n 8) Cut
+    (pick (eqb n 11) Doubtful Unsound)))))))))
+
+-- carried out: taken, or doubtful, which counts as taken
+abbrev pub carriedOut : ℕ → Bool
+carriedOut n = eqb n 0 || eqb n 11
+
+-- the counts are nine, of the answers that a record of a sound panel can have
+abbrev pub countPlaces : ℕ
+countPlaces = 9
+
+-- the place of an answer's count: doubtful has its own right after taken, the answers 1 to 7 follow; any other has none, past the last
+abbrev pub placeOf : ℕ → ℕ
+placeOf n = pick (eqb n 0) 0 (pick (eqb n 11) 1 (pick (ltb n 8) (n + 1) countPlaces))
 
 -- the byte that an answer carries: the byte read for reads answered 0, 1 or 2
 abbrev pub busByte : Answer → ℕ → ℕ
 busByte Taken byte = byte
+busByte Doubtful byte = 0
 busByte Held byte = byte
 busByte Status byte = byte
 busByte Ignored byte = 0

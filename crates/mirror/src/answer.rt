@@ -1,9 +1,10 @@
 // The answers to a record, and their numbers.
 ghost use mathlib.Core.Path.{_≡_};
-ghost use Rattle.mirror.specs.Answer.{numberOf};
+ghost use Rattle.mirror.specs.Answer.{numberOf, placeOf};
 
 pub enum Answer {
     Taken,
+    Doubtful,
     Held,
     Status,
     Ignored,
@@ -21,6 +22,7 @@ impl Answer {
     {
         match self {
             Answer::Taken => 0,
+            Answer::Doubtful => 11,
             Answer::Held => 1,
             Answer::Status => 2,
             Answer::Ignored => 3,
@@ -30,6 +32,25 @@ impl Answer {
             Answer::Nothing => 7,
             Answer::Cut => 8,
             Answer::Unsound => 10,
+        }
+    }
+
+    // The place of its count; past the last where it has none. The cases stand in that order, so that it costs nothing.
+    pub fn place(self) -> u8
+        ensures { λ r. ⌜ r ≡ placeOf (numberOf self) ⌝ }
+    {
+        match self {
+            Answer::Taken => 0,
+            Answer::Doubtful => 1,
+            Answer::Held => 2,
+            Answer::Status => 3,
+            Answer::Ignored => 4,
+            Answer::Torn => 5,
+            Answer::Back => 6,
+            Answer::Bad => 7,
+            Answer::Nothing => 8,
+            Answer::Cut => 9,
+            Answer::Unsound => 9,
         }
     }
 }

@@ -2,6 +2,9 @@
 ghost use mathlib.Core.Path.{_≡_};
 ghost use Rattle.mirror.specs.Run.{raised};
 
+// The counts of a run: of taken, of doubtful, and of the answers 1 to 7.
+pub const COUNTS: usize = 9;
+
 // One more. A count stays at its greatest number, which no real log reaches.
 pub fn raise(n: u64) -> u64
     ensures { λ r. ⌜ r ≡ raised n ⌝ }
