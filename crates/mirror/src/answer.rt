@@ -1,6 +1,7 @@
 // The answers to a record, and their numbers.
 ghost use mathlib.Core.Path.{_≡_};
 ghost use Rattle.mirror.specs.Answer.{numberOf, placeOf};
+ghost use Rattle.mirror.specs.Answers.{clocked};
 
 pub enum Answer {
     Taken,
@@ -33,6 +34,14 @@ impl Answer {
             Answer::Cut => 8,
             Answer::Unsound => 10,
         }
+    }
+
+    // Whether it sets the last time to the record's: carried out, which is 0 or 11, or another of 1 to 4, or 7.
+    pub fn clocked(self) -> bool
+        ensures { λ r. ⌜ r ≡ clocked (numberOf self) ⌝ }
+    {
+        let n = self.number();
+        ((n == 0) | (n == 11)) | (n <= 4) | (n == 7)
     }
 
     // The place of its count; past the last where it has none. The cases stand in that order, so that it costs nothing.

@@ -1,10 +1,11 @@
 // What a run has come to, and the loop over the records of a log.
 ghost use mathlib.Core.Path.{_≡_};
-ghost use Rattle.mirror.specs.Run.{tallied, started, counted};
+ghost use Rattle.mirror.specs.Run.{started, counted};
 ghost use Rattle.mirror.specs.engine.Reading.{consumedOf};
 use crate::answer::Answer;
 use crate::count::COUNTS;
 use crate::count::raise;
+use crate::count::tally;
 use crate::live::Live;
 use crate::panel::Panel;
 use crate::part::added;
@@ -23,16 +24,6 @@ pub struct Totals {
 pub struct Consumed {
     pub totals: Totals,
     pub at: usize,
-}
-
-// The count of an answer, raised.
-fn tally(counts: &mut [u64; COUNTS], answer: Answer)
-    ensures { λ _. ⌜ now (counts .exit) ≡ tallied (now (counts .entry)) answer ⌝ }
-{
-    let n = answer.place() as usize;
-    if n < COUNTS {
-        counts[n] = raise(counts[n]);
-    }
 }
 
 impl Totals {

@@ -1,8 +1,8 @@
 use Rattle.mirror.specs.Run.{tallied}
 use borrow.Author.Tests.{le-ltb, lt-ltb}
 use borrow.Author.Needs.{needs}
-use Rattle.mirror.proofs.totals.tally.Statement.{statement}
-use Rattle.mirror.proofs.totals.tally.Tie as tie
+use Rattle.mirror.proofs.count.tally.Statement.{statement}
+use Rattle.mirror.proofs.count.tally.Tie as tie
 
 place-requires : tie.Need-place-requires
 place-requires c κs = search needs
