@@ -15,13 +15,22 @@ pub struct Done {
     pub failed: bool,
 }
 
-// The line of a record: the number of its answer, and its byte.
+// The tens of a number below 100, where it has any.
+fn put_tens(page: &mut [u8; PAGE], at: usize, number: u8) -> usize {
+    if number < 10 {
+        return at;
+    }
+    put(page, at, &[text::digit(number / 10)])
+}
+
+// The line of a record: the number of its answer in decimal, and its byte.
 pub(crate) fn put_line(page: &mut [u8; PAGE], at: usize, number: u8, byte: u8) -> usize {
+    let ones = put_tens(page, at, number);
     let digits = text::hex(byte);
     put(
         page,
-        at,
-        &[text::digit(number), b' ', digits[0], digits[1], b'\n'],
+        ones,
+        &[text::digit(number % 10), b' ', digits[0], digits[1], b'\n'],
     )
 }
 
