@@ -99,8 +99,8 @@ const UNSOUND: [&str; 10] = [
 ];
 
 /// Words and files that are refused before there is a chip.
-const REFUSED: [&str; 19] = [
-    "size of the file", "memory of the counter", "I/D", "S", "D", "C", "B", "width", "RS of the half",
+const REFUSED: [&str; 20] = [
+    "size of the file", "memory of the counter", "I/D", "S", "D", "C", "B", "width", "good", "RS of the half",
     "R/W of the half", "sort of the half", "RS where none waits", "R/W where none waits",
     "nibble where none waits", "nibble of an ignored half", "file missing", "file not readable",
     "frame file too long", "group given twice",
@@ -130,7 +130,7 @@ fn prefixed(prefix: &str, classes: &[String]) -> Vec<String> {
 
 /// What is wanted of this chip.
 pub fn of_chip(chip: Chip) -> Vec<String> {
-    let mut all: Vec<String> = (0..=10).map(|number| format!("answer {number}")).collect();
+    let mut all: Vec<String> = (0..=11).map(|number| format!("answer {number}")).collect();
     for transfer in TRANSFERS {
         for width in [8, 4] {
             for state in ["free", "busy"] {

@@ -179,7 +179,7 @@ fn cut(random: &mut Random, log: &mut Vec<u8>) {
 pub struct Moment {
     /// Where in the log it begins.
     pub offset: usize,
-    /// Answered 0 to 4 or 7.
+    /// Answered 0 to 4, 7 or 11.
     pub has_a_say: bool,
     /// The time that it tells, if it is long enough to tell one.
     pub time: Option<u64>,

@@ -268,7 +268,7 @@ fn second_half(reach: &mut Reach, step: &Step, memory: &Memory, transfer: Transf
 /// The half came with the panel file, not from this log.
 fn handed_in(reach: &mut Reach, before: &Panel, answer: u8) {
     match answer {
-        TAKEN | NONE => reach.note("taken half handed in"),
+        TAKEN | DOUBTFUL | NONE => reach.note("taken half handed in"),
         STATUS => reach.note("status half handed in"),
         IGNORED => reach.note("ignored half handed in"),
         _ => reach.note("torn half handed in"),
@@ -281,7 +281,7 @@ fn handed_in(reach: &mut Reach, before: &Panel, answer: u8) {
 
 /// Wraps, and the steps that a slip would get wrong.
 fn steps(reach: &mut Reach, step: &Step, transfer: Transfer) {
-    if step.answer.number != TAKEN {
+    if !is_carried_out(step.answer.number) {
         return;
     }
     let (old, new) = (&step.before.sheet, &step.after.sheet);

@@ -195,6 +195,7 @@ fn among(reach: &mut Reach, report: &Report, records: &[&[u8]], run: &Run, m: us
             (TAKEN, Some(Message::Reset { .. })) => "reset",
             (TAKEN, Some(Message::Transfer(Transfer { rs: false, .. }))) => "instruction taken",
             (TAKEN, Some(Message::Transfer(Transfer { rw: true, .. }))) => "data read taken",
+            (DOUBTFUL, _) => "data read doubtful",
             (STATUS, _) => "status read",
             _ if report.dropped.contains(&number) => "a half that a reset drops",
             _ => continue,

@@ -38,8 +38,8 @@ const AGAIN: [&str; 27] = [
     "not again: m does not divide", "not again: an ignored write first", "not again: the log ends first",
 ];
 
-const AMONG: [&str; 14] = [
-    "reset", "status read", "instruction taken", "instruction ignored", "data read taken",
+const AMONG: [&str; 15] = [
+    "reset", "status read", "instruction taken", "instruction ignored", "data read taken", "data read doubtful",
     "data read ignored", "bad", "back", "data write back", "torn", "data write torn",
     "torn by a data write", "none", "a half that a reset drops",
 ];

@@ -75,6 +75,7 @@ fn sound_sheet(random: &mut Random, chip: Chip, width: Width) -> Sheet {
         b: random.flag(),
         width,
         function: random.byte() & 15,
+        good: random.flag(),
     }
 }
 
@@ -137,18 +138,18 @@ fn spoil(random: &mut Random, panel: &mut Panel, way: u64) {
 /// Bytes that the panel's types cannot hold.
 fn no_panel(random: &mut Random, panel: &Panel, way: u64) -> Vec<u8> {
     let mut bytes = panel_file::write(panel);
-    let flag_places = [65, 68, 69, 70, 71, 72, 98, 99];
-    match way % 17 {
+    let flag_places = [65, 68, 69, 70, 71, 72, 98, 99, 101];
+    match way % 18 {
         0 => bytes.truncate(random.pick(&[0, 84])),
-        1 => bytes.truncate(100),
+        1 => bytes.truncate(random.pick(&[100, 101])),
         2 => bytes.push(0),
-        sort @ 3..=10 => bytes[flag_places[sort as usize - 3]] = random.pick(&[2, 255]),
-        11 => bytes[73] = random.pick(&[0, 5, 16, 255]),
-        12 => bytes[97] = random.pick(&[3, 255]),
-        13 => bytes[97..].copy_from_slice(&[0, 1, 0, 0]),
-        14 => bytes[97..].copy_from_slice(&[0, 0, 1, 0]),
-        15 => bytes[97..].copy_from_slice(&[0, 0, 0, random.pick(&[1, 255])]),
-        _ => bytes[97..].copy_from_slice(&[1, 1, 0, random.pick(&[1, 255])]),
+        sort @ 3..=11 => bytes[flag_places[sort as usize - 3]] = random.pick(&[2, 255]),
+        12 => bytes[73] = random.pick(&[0, 5, 16, 255]),
+        13 => bytes[97] = random.pick(&[3, 255]),
+        14 => bytes[97..101].copy_from_slice(&[0, 1, 0, 0]),
+        15 => bytes[97..101].copy_from_slice(&[0, 0, 1, 0]),
+        16 => bytes[97..101].copy_from_slice(&[0, 0, 0, random.pick(&[1, 255])]),
+        _ => bytes[97..101].copy_from_slice(&[1, 1, 0, random.pick(&[1, 255])]),
     }
     bytes
 }
