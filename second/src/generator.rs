@@ -1,6 +1,7 @@
 //! Trials: a log and what the run over it is lent, made anew from a seed and
 //! a turn. Some logs are damaged after they are sent.
 
+use crate::chip::Width;
 use crate::chips::Chip;
 use crate::lend::{self, Group, Word};
 use crate::log;
@@ -142,6 +143,21 @@ pub fn endless_night() -> Vec<u8> {
         log.extend(log::write_transfer(2_000 + 40 * n, 1, b'A'));
     }
     log
+}
+
+/// Every code with a read behind it, sent at this width to a fresh panel.
+pub fn codes_before_reads(seed: u64, chip: Chip, width: Width) -> Vec<u8> {
+    let mut random = Random::new(seed, u64::MAX - 1);
+    sender::send_codes_before_reads(&mut random, Panel::fresh(chip, Times::USUAL), width)
+}
+
+/// Data reads, whole or as halves, whatever the width is: at once; behind a half
+/// that tears one which waits; behind a reset.
+pub fn first_reads() -> [Vec<u8>; 3] {
+    let read = |time| log::write_transfer(time, 3, 0xFF);
+    let reads = |from: u64| (from..).step_by(40).take(4).flat_map(read).collect::<Vec<u8>>();
+    let status = log::write_transfer(0, 2, 0xFF);
+    [reads(0), [status, reads(0)].concat(), [log::write_reset(0), reads(65_535)].concat()]
 }
 
 /// A log far longer than any buffer that a program may keep.

@@ -34,6 +34,17 @@ pub fn log(reach: &mut Reach, start: &Panel, log: &[u8]) {
     let held = report.dropped.iter().any(|&record| report.answers[record as usize - 1] == HELD);
     note_if(reach, held, "a held half dropped by a reset has no line");
     runs(reach, &report, &records);
+    doubtful(reach, &report.answers);
+}
+
+/// Doubtful reads, which have a count and no line; a pair's first half is held.
+fn doubtful(reach: &mut Reach, answers: &[u8]) {
+    let mut latest = None;
+    for &answer in answers.iter().filter(|&&answer| !matches!(answer, BACK | BAD)) {
+        let how = if latest == Some(HELD) { "pair" } else { "whole" };
+        note_if(reach, answer == DOUBTFUL, &format!("doubtful data-read, {how}"));
+        latest = Some(answer);
+    }
 }
 
 fn note(reach: &mut Reach, class: &str) {

@@ -155,6 +155,11 @@ impl Panel {
         Panel { sheet: Sheet::fresh(chip), times, busy_end: 0, last: 0, half: None }
     }
 
+    /// Whether a fresh panel of its chip and times would be the same.
+    pub fn is_fresh(&self) -> bool {
+        *self == Panel::fresh(self.sheet.chip, self.times)
+    }
+
     pub fn is_sound(&self) -> bool {
         faults(self).is_empty()
     }

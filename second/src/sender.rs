@@ -7,9 +7,11 @@ mod faults;
 mod glass;
 mod nights;
 mod phrases;
+mod reads;
 
 pub use glass::{send_glass, Scene};
 pub use nights::send_nights;
+pub use reads::send_codes_before_reads;
 
 use crate::chip::Width;
 use crate::log::{self, TIME_LIMIT};

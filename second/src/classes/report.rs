@@ -1,7 +1,7 @@
 //! The classes of the report. Its print does not depend on the chip, and so is
 //! wanted of both.
 
-use super::owned;
+use super::{owned, reads};
 
 /// The codes at the ends of each instruction's range, as the report names them.
 const CODES: [&str; 18] = [
@@ -60,7 +60,7 @@ pub fn of_every_chip() -> Vec<String> {
             }
         }
     }
-    let lists: [&[&str]; 4] = [&CODES, &LINES, &TIMES, &AGAIN];
+    let lists: [&[&str]; 5] = [&CODES, &LINES, &TIMES, &AGAIN, &reads::OF_REPORT];
     all.extend(owned(&lists.concat()));
     all.extend(AMONG.map(|class| format!("among the writes: {class}")));
     all

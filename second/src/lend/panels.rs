@@ -202,3 +202,25 @@ pub fn where_chips_part() -> Vec<Vec<u8>> {
     }
     panels.iter().map(panel_file::write).collect()
 }
+
+/// Panels that are good and that are not: at both widths, and at width 4 with a
+/// read half of either sort of nibble waiting too.
+pub fn good_and_not() -> Vec<Panel> {
+    let mut panels = Vec::new();
+    for chip in Chip::KNOWN {
+        for good in [true, false] {
+            let display = Counter::Display(DisplayAddress(0));
+            let pattern = Counter::Pattern(PatternAddress(9));
+            for (width, nibble, counter) in [
+                (Width::Eight, None, pattern), (Width::Four, None, display), (Width::Four, Some(0), display),
+                (Width::Four, Some(0x0E), pattern),
+            ] {
+                let half = nibble.map(|nibble| Half { rs: true, rw: true, nibble: Some(nibble) });
+                let mut panel = Panel { half, ..plain(chip) };
+                panel.sheet = Sheet { width, good, counter, pattern: [0x1B; 32], ..panel.sheet };
+                panels.push(panel);
+            }
+        }
+    }
+    panels
+}
