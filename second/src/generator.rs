@@ -151,13 +151,13 @@ pub fn codes_before_reads(seed: u64, chip: Chip, width: Width) -> Vec<u8> {
     sender::send_codes_before_reads(&mut random, Panel::fresh(chip, Times::USUAL), width)
 }
 
-/// Data reads, whole or as halves, whatever the width is: at once; behind a half
-/// that tears one which waits; behind a reset.
-pub fn first_reads() -> [Vec<u8>; 3] {
+/// Data reads, whole or as halves, whatever the width is: behind a half that tears
+/// one which waits; behind a reset; at once; and one alone, which may be a half.
+pub fn first_reads() -> [Vec<u8>; 4] {
     let read = |time| log::write_transfer(time, 3, 0xFF);
     let reads = |from: u64| (from..).step_by(40).take(4).flat_map(read).collect::<Vec<u8>>();
     let status = log::write_transfer(0, 2, 0xFF);
-    [reads(0), [status, reads(0)].concat(), [log::write_reset(0), reads(65_535)].concat()]
+    [[status, reads(0)].concat(), [log::write_reset(0), reads(65_535)].concat(), reads(0), read(0)]
 }
 
 /// A log far longer than any buffer that a program may keep.

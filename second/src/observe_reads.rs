@@ -2,6 +2,7 @@
 //! alone, and the reads that show it.
 
 use crate::chip::{Sheet, Width};
+use crate::classes::FROM_FRESH;
 use crate::log::Transfer;
 use crate::observe::{transfer_name, Step};
 use crate::panel::number::*;
@@ -65,11 +66,14 @@ fn handed_in(reach: &mut Reach, before: &Panel, end: &str) {
     }
 }
 
-/// Notes what the panel is that a run ends with.
+/// Notes what the panel is that a run ends with. A read half that waits shows the
+/// byte's low half where the panel is good, and where it is not, that it has none.
 pub fn end(reach: &mut Reach, panel: &Panel) {
     let state = state(panel.sheet.good);
     reach.note(&format!("ends {state}"));
-    reach.note_if(read_nibble(panel).is_some(), &format!("ends {state}, with a read half"));
+    let has_low_half = panel.sheet.byte_at_address() & 0x0F != 0;
+    let waits = read_nibble(panel).is_some();
+    reach.note_if(waits && has_low_half, &format!("ends {state}, with a read half of a byte with a low half"));
 }
 
 fn ignored(transfer: Transfer) -> &'static str {
@@ -222,7 +226,69 @@ impl Trail {
         }
         // A display shift is carried out, and stays.
         let is_struck = self.left.as_ref().is_some_and(|left| !left.starts_with("shift"));
-        let is_checked = self.ways.contains(&crate::classes::FROM_FRESH);
+        let is_checked = self.ways.contains(&FROM_FRESH);
         reach.note_if(is_struck && is_checked, &format!("doubtful read kept behind a struck record, width {width}"));
+    }
+}
+
+#[cfg(test)]
+mod tests {
+    use crate::arguments;
+    use crate::chips::Chip;
+    use crate::generator::Trial;
+    use crate::log;
+    use crate::observe;
+    use crate::questions::{Question, Which};
+    use crate::reach::Reach;
+    use crate::start::Feed;
+
+    const READ: (u64, u8, u8) = (0, 3, 0);
+
+    /// The classes about reads that a log reaches from a fresh panel of one line;
+    /// a transfer is sent so long after the one before it.
+    fn reached(transfers: &[(u64, u8, u8)]) -> Vec<String> {
+        let mut time = 0;
+        let mut log = Vec::new();
+        for &(later, control, data) in transfers {
+            time += later;
+            log.extend(log::write_transfer(time, control, data));
+        }
+        let trial = Trial::of_chip(Chip::ONE_LINE, log);
+        let lent = arguments::trace(&[]).expect("no words");
+        let mut reach = Reach::new();
+        observe::question(&mut reach, &Question { which: Which::Trace, trial, feed: Feed::Whole }, Ok(&lent));
+        let is_reached = |&(ref class, count): &(String, u64)| count > 0 && class.contains("read after");
+        reach.table().into_iter().filter(is_reached).map(|(class, _)| class).collect()
+    }
+
+    #[test]
+    fn what_turned_it() {
+        assert_eq!(reached(&[READ]), ["doubtful read after fresh start, width 8 [6631]"]);
+        let set = (0, 0, 0x80);
+        assert_eq!(reached(&[set, (40, 3, 0)]), ["taken read after display address, width 8 [6631]"]);
+        assert_eq!(
+            reached(&[set, (40, 1, 0x41), (40, 3, 0), (40, 3, 0)]),
+            [
+                "taken read after doubtful read in display memory, width 8 [6631]",
+                "doubtful read after display write, width 8 [6631]",
+            ]
+        );
+        let narrow = [set, (40, 0, 0x20), (40, 3, 0), (0, 3, 0)];
+        assert_eq!(reached(&narrow), ["doubtful read after to width 4, width 4 [6631]"]);
+        let twice = [(0, 1, 0x41), (40, 1, 0x41), (40, 3, 0)];
+        assert!(reached(&twice).is_empty(), "it was not good before");
+    }
+
+    #[test]
+    fn what_left_it_alone() {
+        let set = (0, 0, 0x40);
+        for (left, class) in [
+            ((39, 1, 0x41), "ignored data write"), ((39, 3, 0), "ignored data read"), ((39, 0, 0x80), "ignored address set"),
+            ((40, 0, 0x1C), "shift right in pattern memory"), ((40, 2, 0), "status read"), ((40, 0, 0), "none 00h"),
+            ((40, 5, 0x41), "bad record"),
+        ] {
+            let found = reached(&[set, left, (40, 3, 0)]);
+            assert_eq!(found, [format!("read after {class} left it good, width 8 [6631]")]);
+        }
     }
 }

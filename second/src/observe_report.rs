@@ -34,16 +34,20 @@ pub fn log(reach: &mut Reach, start: &Panel, log: &[u8]) {
     let held = report.dropped.iter().any(|&record| report.answers[record as usize - 1] == HELD);
     note_if(reach, held, "a held half dropped by a reset has no line");
     runs(reach, &report, &records);
-    doubtful(reach, &report.answers);
+    doubtful(reach, &report);
 }
 
 /// Doubtful reads, which have a count and no line; a pair's first half is held.
-fn doubtful(reach: &mut Reach, answers: &[u8]) {
+fn doubtful(reach: &mut Reach, report: &Report) {
     let mut latest = None;
-    for &answer in answers.iter().filter(|&&answer| !matches!(answer, BACK | BAD)) {
-        let how = if latest == Some(HELD) { "pair" } else { "whole" };
-        note_if(reach, answer == DOUBTFUL, &format!("doubtful data-read, {how}"));
+    for (number, &answer) in (1..).zip(&report.answers).filter(|(_, &answer)| !matches!(answer, BACK | BAD)) {
+        let is_pair = latest == Some(HELD);
         latest = Some(answer);
+        if answer == DOUBTFUL {
+            note(reach, if is_pair { "doubtful data-read, pair" } else { "doubtful data-read, whole" });
+            let has_line = report.lines.iter().any(|line| line.record == number + 1 && line.second.is_some());
+            note_if(reach, is_pair && has_line, "a line of a pair right behind a doubtful pair");
+        }
     }
 }
 

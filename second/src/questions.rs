@@ -207,7 +207,7 @@ fn panels() -> Vec<Question> {
 }
 
 /// Every code before a read, and panels whose first read shows whether they are
-/// good: it is carried out, its half is torn, or it comes after a reset.
+/// good: its half is torn, it comes after a reset, it is carried out, or it waits.
 fn reads(seed: u64) -> Vec<Question> {
     let mut questions = Vec::new();
     for chip in Chip::KNOWN {
@@ -219,7 +219,7 @@ fn reads(seed: u64) -> Vec<Question> {
     }
     for (number, panel) in panels::good_and_not().into_iter().enumerate() {
         let logs = generator::first_reads();
-        let asked = if panel.half.is_some() { &logs[..] } else { &logs[..1] };
+        let asked = if panel.half.is_some() { &logs[..3] } else { &logs[2..] };
         for log in asked {
             let groups = if number / 2 % 2 == 0 { vec![text("records")] } else { Vec::new() };
             questions.push(handed_in(panel_file::write(&panel), groups, log));

@@ -49,8 +49,10 @@ const DOUBTFUL: [&str; 12] = [
 ];
 
 const OTHERS: [&str; 7] = [
-    "one back after a doubtful read", "ends good", "ends not good", "ends good, with a read half",
-    "ends not good, with a read half", "10 of a panel that is good", "10 of a panel that is not good",
+    "one back after a doubtful read", "ends good", "ends not good",
+    "ends good, with a read half of a byte with a low half",
+    "ends not good, with a read half of a byte with a low half", "10 of a panel that is good",
+    "10 of a panel that is not good",
 ];
 
 pub fn of_every_chip() -> Vec<String> {
@@ -86,7 +88,9 @@ fn of_width(width: u8) -> Vec<String> {
 }
 
 /// Of the report's print.
-pub const OF_REPORT: [&str; 2] = ["doubtful data-read, whole", "doubtful data-read, pair"];
+pub const OF_REPORT: [&str; 3] = [
+    "doubtful data-read, whole", "doubtful data-read, pair", "a line of a pair right behind a doubtful pair",
+];
 
 /// Of the mirror program's print.
 pub const OF_GLAZOMIR: [&str; 2] = ["doubtful reads", "another count of doubtful than of taken"];

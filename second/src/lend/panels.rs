@@ -224,3 +224,28 @@ pub fn good_and_not() -> Vec<Panel> {
     }
     panels
 }
+
+#[cfg(test)]
+mod tests {
+    use super::*;
+
+    #[test]
+    fn good_or_not_a_panel_is_sound_whatever_read_half_waits() {
+        let panels = good_and_not();
+        assert!(panels.iter().all(Panel::is_sound));
+        let with_nibble = panels.iter().filter(|panel| {
+            let not_zero = matches!(panel.half, Some(Half { rs: true, rw: true, nibble: Some(1..) }));
+            not_zero && !panel.sheet.good
+        });
+        assert_eq!((panels.len(), with_nibble.count()), (16, 2));
+    }
+
+    #[test]
+    fn bytes_that_are_no_panel() {
+        let mut random = Random::new(1, 1);
+        for way in 0..200 {
+            let panel = sound_panel(&mut random);
+            assert!(panel_file::read(&no_panel(&mut random, &panel, way)).is_err(), "way {way}");
+        }
+    }
+}

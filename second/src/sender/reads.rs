@@ -25,6 +25,7 @@ pub fn send_codes_before_reads(random: &mut Random, panel: Panel, width: Width) 
 }
 
 impl Sender<'_> {
+    /// Whether the next read is good, left alone or turned, and then a read.
     pub(super) fn read_that_shows(&mut self) {
         let patient = std::mem::replace(&mut self.habits.patient, 100);
         let (memory, is_good) = (self.random.pick(&[0x40, 0x80]), self.random.flag());
