@@ -8,7 +8,7 @@ mod two_lines;
 use crate::arguments;
 use crate::chip::{Counter, DisplayAddress, PatternAddress, Sheet};
 use crate::chips::Chip;
-use crate::log;
+use crate::log::{self, write_transfers as at_times};
 use crate::panel::{self, Panel, Run, Times};
 use crate::picture::{self, Painting, FONT_SIZE};
 use crate::prints;
@@ -27,10 +27,6 @@ const INSTRUCTION: u8 = 0;
 const DATA: u8 = 1;
 const STATUS: u8 = 2;
 const DATA_READ: u8 = 3;
-
-fn at_times(transfers: &[(u64, u8, u8)]) -> Vec<u8> {
-    transfers.iter().flat_map(|&(time, control, data)| log::write_transfer(time, control, data)).collect()
-}
 
 /// Where no time is given, records come 40 apart from 0.
 fn forty_apart(transfers: &[(u8, u8)]) -> Vec<u8> {

@@ -53,6 +53,15 @@ pub enum Width {
     Four,
 }
 
+impl Width {
+    pub fn bits(self) -> u8 {
+        match self {
+            Width::Eight => 8,
+            Width::Four => 4,
+        }
+    }
+}
+
 /// Everything that the sheet describes.
 #[derive(Clone, Debug, PartialEq)]
 pub struct Sheet {

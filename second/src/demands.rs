@@ -144,12 +144,13 @@ mod tests {
     /// transfers and as halves.
     #[test]
     fn the_replay_carries_doubtful_reads_out() {
-        let wide = [(0, 0x04), (1, 0x57), (3, 0), (3, 0)];
-        let narrow = [(0, 0x20), (0, 0x00), (0, 0x40), (1, 0x50), (1, 0x70), (3, 0), (3, 0), (3, 0), (3, 0)];
+        let wide = [(0, 0, 0x04), (40, 1, 0x57), (80, 3, 0), (120, 3, 0)];
+        let narrow = [
+            (0, 0, 0x20), (40, 0, 0x00), (41, 0, 0x40), (81, 1, 0x50), (82, 1, 0x70), (122, 3, 0), (123, 3, 0),
+            (163, 3, 0), (164, 3, 0),
+        ];
         for (sent, numbers) in [(&wide[..], &[0, 0, 11, 0][..]), (&narrow, &[0, 1, 0, 1, 0, 1, 11, 1, 0])] {
-            let times = (0..).step_by(40);
-            let log: Vec<u8> =
-                times.zip(sent).flat_map(|(time, &(control, data))| log::write_transfer(time, control, data)).collect();
+            let log = log::write_transfers(sent);
             let mut panel = Panel::fresh(Chip::ONE_LINE, Times::USUAL);
             let answers = panel::run(&mut panel, &log).answers;
             assert_eq!(answers.iter().map(|answer| answer.number).collect::<Vec<_>>(), numbers);
@@ -163,9 +164,8 @@ mod tests {
     #[test]
     fn what_is_good_ends_the_same() {
         for (last, good) in [((0, 0x80), true), ((1, 0x57), false), ((3, 0), true)] {
-            let sent = [(0, 0, 0x80), (39, 1, 0x57), (40, last.0, last.1), (79, 0, 0x01), (80, 2, 0)];
-            let log: Vec<u8> =
-                sent.iter().flat_map(|&(time, control, data)| log::write_transfer(time, control, data)).collect();
+            let log =
+                log::write_transfers(&[(0, 0, 0x80), (39, 1, 0x57), (40, last.0, last.1), (79, 0, 0x01), (80, 2, 0)]);
             let mut panel = Panel::fresh(Chip::TWO_LINES, Times::USUAL);
             let answers = panel::run(&mut panel, &log).answers;
             assert_eq!((panel.sheet.good, replay(Chip::TWO_LINES, &log, &answers).good), (good, good));

@@ -122,13 +122,10 @@ pub fn night(seed: u64, turn: u64) -> Trial {
 /// part in what is written again.
 pub fn short_night() -> Vec<u8> {
     let (instruction, data, status) = (0, 1, 2);
-    let mut log = Vec::new();
-    for (time, control, byte) in [
+    let mut log = log::write_transfers(&[
         (0, instruction, 0x20), (39, data, 0x50), (38, data, 0x50), (45, data, 0x70), (46, data, 0x50),
         (47, data, 0x70), (60, data, 0x50), (61, status, 0), (62, instruction, 0x80),
-    ] {
-        log.extend(log::write_transfer(time, control, byte));
-    }
+    ]);
     log.extend(log::write_reset(63));
     log
 }

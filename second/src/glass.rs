@@ -109,15 +109,16 @@ pub fn two_lines_by_time() -> Vec<Trial> {
 /// A cursor that two reads move, the first of them doubtful, at every time at
 /// which it moves: whole, and as halves.
 pub fn doubtful_reads_by_time() -> Vec<Trial> {
-    let read = |time| log::write_transfer(time, 3, 0);
-    let wide = [log::write_transfer(0, 0, 0x0E), read(100), read(200)].concat();
-    let narrow = [log::write_transfer(0, 0, 0x0E), log::write_transfer(40, 0, 0x20), read(100), read(101), read(200)];
+    let (instruction, read) = (0, 3);
+    let wide = log::write_transfers(&[(0, instruction, 0x0E), (100, read, 0), (200, read, 0)]);
+    let narrow = log::write_transfers(&[
+        (0, instruction, 0x0E), (40, instruction, 0x20), (100, read, 0), (101, read, 0), (200, read, 0),
+    ]);
     let mut trials = Vec::new();
     for chip in Chip::KNOWN {
-        for (words, log) in [
-            ("ascii at 99", &wide), ("pbm at 100", &wide), ("at 100 ascii", &narrow.concat()),
-            ("pbm at 101", &narrow.concat()),
-        ] {
+        for (words, log) in
+            [("ascii at 99", &wide), ("pbm at 100", &wide), ("at 100 ascii", &narrow), ("pbm at 101", &narrow)]
+        {
             let mut groups = lend::chip_words(chip);
             groups.extend([text(words), files("font", vec![cases::wall_font()])]);
             trials.push(Trial { groups, log: log.clone() });

@@ -220,7 +220,7 @@ fn carried(reach: &mut Reach, step: &Step, memory: &mut Memory, transfer: Transf
 fn note_transfer(reach: &mut Reach, sheet: &Sheet, transfer: Transfer, free: bool) {
     let wide = sheet.width == Width::Eight;
     let name = transfer_name(sheet, transfer);
-    let width = if wide { 8 } else { 4 };
+    let width = sheet.width.bits();
     let state = if free { "free" } else { "busy" };
     reach.note(&format!("{name}, width {width}, {state}"));
     if name == "status read" {

@@ -46,10 +46,6 @@ fn state(good: bool) -> &'static str {
     if good { "good" } else { "not good" }
 }
 
-fn width(sheet: &Sheet) -> u8 {
-    if sheet.width == Width::Eight { 8 } else { 4 }
-}
-
 /// The nibble of a data read's first half, where one is held.
 fn read_nibble(panel: &Panel) -> Option<u8> {
     match panel.half {
@@ -92,8 +88,10 @@ impl Trail {
         Trail { turned, left: None, code: None, between: Vec::new(), wait: None, ways }
     }
 
+    /// Something was carried out; it is told where it turned the panel.
     fn turn(&mut self, turned: Option<String>) {
-        *self = Trail { turned, left: None, code: None, between: Vec::new(), wait: None, ways: self.ways.clone() };
+        (self.turned, self.left, self.code, self.wait) = (turned, None, None, None);
+        self.between.clear();
     }
 
     fn leave(&mut self, what: &str) {
@@ -157,7 +155,7 @@ impl Trail {
         if step.before.half.is_some() || last == busy_end {
             return;
         }
-        let width = width(&step.before.sheet);
+        let width = step.before.sheet.width.bits();
         if is_status(rs, rw) {
             return reach.note_if(time < busy_end, &format!("status within the wait of a doubtful read, width {width}"));
         }
@@ -192,7 +190,7 @@ impl Trail {
     /// A data read that is carried out, whole or at its second half.
     pub fn read(&mut self, reach: &mut Reach, step: &Step) {
         let old = &step.before.sheet;
-        let (is_doubtful, width) = (step.answer.number == DOUBTFUL, width(old));
+        let (is_doubtful, width) = (step.answer.number == DOUBTFUL, old.width.bits());
         let answer = if is_doubtful { "doubtful" } else { "taken" };
         match (&self.left, &self.turned) {
             (Some(left), _) => reach.note(&format!("read after {left} left it {}, width {width}", state(old.good))),
@@ -215,7 +213,7 @@ impl Trail {
 
     /// What a slip would get wrong of a doubtful read; the sheet is the one before.
     fn doubtful(&self, reach: &mut Reach, old: &Sheet) {
-        let (width, byte) = (width(old), old.byte_at_address());
+        let (width, byte) = (old.width.bits(), old.byte_at_address());
         let way = if old.i_d { "up" } else { "down" };
         reach.note(&format!("doubtful read in {}, {way}, width {width}", memory(old)));
         reach.note_if(byte & 0xF0 != 0, &format!("doubtful read of a byte with a high half, width {width}"));
@@ -283,9 +281,9 @@ mod tests {
     fn what_left_it_alone() {
         let set = (0, 0, 0x40);
         for (left, class) in [
-            ((39, 1, 0x41), "ignored data write"), ((39, 3, 0), "ignored data read"), ((39, 0, 0x80), "ignored address set"),
-            ((40, 0, 0x1C), "shift right in pattern memory"), ((40, 2, 0), "status read"), ((40, 0, 0), "none 00h"),
-            ((40, 5, 0x41), "bad record"),
+            ((39, 1, 0x41), "ignored data write"), ((39, 3, 0), "ignored data read"),
+            ((39, 0, 0x80), "ignored address set"), ((40, 0, 0x1C), "shift right in pattern memory"),
+            ((40, 2, 0), "status read"), ((40, 0, 0), "none 00h"), ((40, 5, 0x41), "bad record"),
         ] {
             let found = reached(&[set, left, (40, 3, 0)]);
             assert_eq!(found, [format!("read after {class} left it good, width 8 [6631]")]);

@@ -1,7 +1,7 @@
 //! Watches what `wall` is asked and shows, and notes which of its classes it
 //! meets.
 
-use crate::chip::{Counter, PatternAddress, Sheet, Width};
+use crate::chip::{Counter, PatternAddress, Sheet};
 use crate::chips::LINE;
 use crate::classes::WALL;
 use crate::glass::{self, Moment};
@@ -175,8 +175,7 @@ fn passed_over(reach: &mut Reach, from: &Panel, moments: &[Moment], shown: &Show
 fn doubtful(reach: &mut Reach, moments: &[Moment], shown: &Shown) {
     let sheet = &shown.panel.sheet;
     let stops = shown.before.is_some_and(|place| moments[place].is_doubtful);
-    let width = if sheet.width == Width::Eight { 8 } else { 4 };
-    let class = format!("a doubtful read is the first that is later, width {width}");
+    let class = format!("a doubtful read is the first that is later, width {}", sheet.width.bits());
     note_if(reach, stops && has_cursor(sheet), &class);
 }
 

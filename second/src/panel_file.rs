@@ -76,7 +76,7 @@ pub fn write(panel: &Panel) -> Vec<u8> {
     bytes.push(sheet.counter.number());
     bytes.push(sheet.shift);
     bytes.extend([sheet.i_d, sheet.s, sheet.d, sheet.c, sheet.b].map(u8::from));
-    bytes.push(if sheet.width == Width::Eight { 8 } else { 4 });
+    bytes.push(sheet.width.bits());
     bytes.push(sheet.function);
     for time in [panel.times.reset, panel.times.long, panel.times.short] {
         bytes.extend(time.to_le_bytes());

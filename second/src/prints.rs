@@ -2,7 +2,7 @@
 //! chip the panel has.
 
 use crate::arguments::Lent;
-use crate::chip::{Counter, Width};
+use crate::chip::Counter;
 use crate::chips::Chip;
 use crate::panel::number::{CUT, UNSOUND};
 use crate::panel::{self, Half, Panel, Run, COUNTED};
@@ -87,8 +87,7 @@ fn sheet(print: &mut String, panel: &Panel) {
     line(print, format_args!("shift {}", sheet.shift));
     line(print, format_args!("entry {} {}", bit(sheet.i_d), bit(sheet.s)));
     line(print, format_args!("screen {} {} {}", bit(sheet.d), bit(sheet.c), bit(sheet.b)));
-    let width = if sheet.width == Width::Eight { 8 } else { 4 };
-    line(print, format_args!("width {width} function {:X}", sheet.function));
+    line(print, format_args!("width {} function {:X}", sheet.width.bits(), sheet.function));
 }
 
 fn half(half: Option<Half>) -> String {
@@ -196,9 +195,10 @@ mod tests {
         ]
         .concat();
         let print = trace(&usual(), &log);
-        for line in
-            ["counter pattern 1E", "width 4 function B", "half 1 0 0 D", "busy 81 last 81", "counts 2 0 2 0 0 0 0 0 0", "good 1"]
-        {
+        for line in [
+            "counter pattern 1E", "width 4 function B", "half 1 0 0 D", "busy 81 last 81", "counts 2 0 2 0 0 0 0 0 0",
+            "good 1",
+        ] {
             assert!(print.contains(&format!("\n{line}\n")), "{line}");
         }
         assert!(glazomir(&usual().panel, &log).contains("\npattern 1E\ncodes 20 20"));

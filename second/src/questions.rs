@@ -217,12 +217,12 @@ fn reads(seed: u64) -> Vec<Question> {
         questions.push(by_records(chip, narrow));
         questions.push(by_records(chip, wide));
     }
-    for (number, panel) in panels::good_and_not().into_iter().enumerate() {
-        let logs = generator::first_reads();
+    let logs = generator::first_reads();
+    for panel in panels::good_and_not() {
         let asked = if panel.half.is_some() { &logs[..3] } else { &logs[2..] };
         for log in asked {
-            let groups = if number / 2 % 2 == 0 { vec![text("records")] } else { Vec::new() };
-            questions.push(handed_in(panel_file::write(&panel), groups, log));
+            let ways = [Vec::new(), vec![text("records")]];
+            questions.extend(ways.map(|groups| handed_in(panel_file::write(&panel), groups, log)));
         }
     }
     questions

@@ -46,8 +46,7 @@ pub fn send_log(random: &mut Random, panel: Panel, target: usize) -> Vec<u8> {
         stubborn: random.chance(15),
     };
     let leaps = random.chance(15);
-    let believed = panel.sheet.width;
-    let mut sender = Sender { random, panel, believed, habits, log: Vec::new(), sent: 0, leaps };
+    let mut sender = Sender { leaps, ..Sender::new(random, panel, habits) };
     if sender.random.chance(70) {
         sender.start_up();
     }
@@ -67,6 +66,11 @@ pub fn send_log(random: &mut Random, panel: Panel, target: usize) -> Vec<u8> {
 }
 
 impl Sender<'_> {
+    fn new(random: &mut Random, panel: Panel, habits: Habits) -> Sender<'_> {
+        let believed = panel.sheet.width;
+        Sender { random, panel, believed, habits, log: Vec::new(), sent: 0, leaps: false }
+    }
+
     fn reset(&mut self) {
         let time = self.time();
         self.emit(log::write_reset(time));

@@ -216,9 +216,8 @@ mod tests {
     /// The cursor, which a doubtful read moves, is still where it was.
     #[test]
     fn a_doubtful_read_ends_it_as_a_taken_one_does() {
-        let read = |time| log::write_transfer(time, 3, 0);
-        let wide = [instruction(0, 0x0E), read(100), read(200)].concat();
-        let narrow = [instruction(0, 0x0E), instruction(40, 0x20), read(100), read(101), read(200)].concat();
+        let wide = log::write_transfers(&[(0, 0, 0x0E), (100, 3, 0), (200, 3, 0)]);
+        let narrow = log::write_transfers(&[(0, 0, 0x0E), (40, 0, 0x20), (100, 3, 0), (101, 3, 0), (200, 3, 0)]);
         for (log, at, before, cursor) in [
             (&wide, 99, Some(1), 0), (&wide, 100, Some(2), 1), (&narrow, 99, Some(2), 0), (&narrow, 100, Some(3), 0),
             (&narrow, 101, Some(4), 1), (&narrow, 200, None, 1),

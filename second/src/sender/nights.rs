@@ -33,16 +33,7 @@ pub fn send_nights(random: &mut Random, panel: Panel, target: usize) -> Vec<u8> 
         faulty: random.pick(&[0, 0, 2]),
         stubborn: false,
     };
-    let sender = Sender {
-        random,
-        panel,
-        believed: Width::Eight,
-        habits,
-        log: Vec::new(),
-        sent: 0,
-        leaps: false,
-    };
-    let mut nights = Nights { sender, noise: 0 };
+    let mut nights = Nights { sender: Sender::new(random, panel, habits), noise: 0 };
     nights.begin();
     while nights.sender.sent < target {
         nights.phrase();

@@ -11,8 +11,7 @@ use crate::random::Random;
 /// panel: in either memory, once after an address set and once after a write.
 pub fn send_codes_before_reads(random: &mut Random, panel: Panel, width: Width) -> Vec<u8> {
     let habits = Habits { patient: 100, tearing: 0, faulty: 0, stubborn: false };
-    let mut sender =
-        Sender { random, panel, believed: Width::Eight, habits, log: Vec::new(), sent: 0, leaps: false };
+    let mut sender = Sender::new(random, panel, habits);
     for code in 0..=0xFF {
         for (memory, is_good) in [(0x40, true), (0x40, false), (0x80, true), (0x80, false)] {
             sender.make_width(width);
