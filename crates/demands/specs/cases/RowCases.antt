@@ -3,7 +3,7 @@
 use Prim.Native.Nat.{ℕ, zero, suc}
 use lib.Dec.{eqb}
 use mathlib.Core.Path.{_≡_}
-use mathlib.Core.Bool.{Bool}
+use mathlib.Core.Bool.{Bool, true, false}
 use mathlib.Core.List.{List, [], _∷_, _++_, map}
 use lib.ListN.{replicate}
 use Rattle.laws.specs.Pick.{pick}
@@ -57,7 +57,7 @@ draws n = Pattern (pattern n)
 abbrev bit : ℕ → Bool
 bit n = eqb n 1
 
--- registers of the chip with one line, in the paper's order: address; shift; I/D, S; D, C, B; width, 8 or 4; Function Set bits
+-- registers of the chip with one line, in the paper's order: address; shift; I/D, S; D, C, B; width, 8 or 4; Function Set bits. The next read is good
 abbrev pub regs : Address → ℕ → ℕ → ℕ → ℕ → ℕ → ℕ → ℕ → ℕ → Registers
 regs address shift up follow on cursor blink width function =
     record {
@@ -71,11 +71,12 @@ regs address shift up follow on cursor blink width function =
       blink = bit blink;
       eight = eqb width 8;
       function = function;
+      good = true;
     }
 
--- the same of another chip
-abbrev pub regsOf : ℕ → Registers → Registers
-regsOf chip r =
+-- registers with the chip, and with whether the next read is good, set anew
+abbrev regsWith : ℕ → Bool → Registers → Registers
+regsWith chip good r =
     record {
       chip = chip;
       address = r .address;
@@ -87,7 +88,15 @@ regsOf chip r =
       blink = r .blink;
       eight = r .eight;
       function = r .function;
+      good = good;
     }
+
+-- the same of another chip; and where the next read is not good
+abbrev pub regsOf : ℕ → Registers → Registers
+regsOf chip r = regsWith chip (r .good) r
+
+abbrev pub doubted : Registers → Registers
+doubted r = regsWith (r .chip) false r
 
 -- two settings in which every bit differs, at a width
 abbrev pub down : ℕ → Registers
@@ -150,7 +159,7 @@ abbrev pub blank : List ℕ
 blank = replicate 32 0x20
 
 abbrev pub afreshOf : ℕ → ℕ → ℕ → Panel
-afreshOf chip busy last = panelWith (regsOf chip (regs (shows 0) 0 1 0 0 0 0 8 0)) blank (replicate 32 0) busy Empty last
+afreshOf chip busy last = panelWith (regsOf chip (doubted (regs (shows 0) 0 1 0 0 0 0 8 0))) blank (replicate 32 0) busy Empty last
 
 abbrev pub afresh : ℕ → ℕ → Panel
 afresh busy last = afreshOf 31 busy last

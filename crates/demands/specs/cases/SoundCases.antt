@@ -8,7 +8,7 @@ use Rattle.mirror.specs.declared.half.Half.{Half}
 use Rattle.mirror.specs.declared.half.Half.the-variants.{Empty}
 use Rattle.mirror.specs.declared.panel.Panel.{Panel}
 use Rattle.chip.specs.declared.address.Address.{Address}
-use Rattle.demands.specs.cases.RowCases.{Hold, recording, shows, draws, regs, regsOf, down, up, codes, memoryOf, dots, with, panelWith, panel, panelOn, held, missed, afreshOf, afresh}
+use Rattle.demands.specs.cases.RowCases.{Hold, recording, shows, draws, regs, regsOf, down, up, codes, memoryOf, dots, with, panelWith, panel, panelOn, doubted, held, missed, afreshOf, afresh}
 
 -- a display memory of one line; an address on two lines
 abbrev stored : List ℕ → Panel
@@ -99,6 +99,10 @@ clauses =
     ∷ (waits 8 (held 1 1 5), false)
     ∷ (waits 8 (missed 0 0), false)
     ∷ (waits 8 (missed 1 0), false)
+    -- where the next read is not good a read half may wait with any nibble (document 02, wish 2, names no refusal)
+    ∷ (panel (doubted (up 4)) 900 (held 1 1 0) 800, true)
+    ∷ (panel (doubted (up 4)) 900 (held 1 1 7) 800, true)
+    ∷ (panel (doubted (up 4)) 900 (held 1 1 16) 800, false)
     -- no status half marked ignored
     ∷ (waits 4 (missed 0 0), true)
     ∷ (waits 4 (missed 1 0), true)

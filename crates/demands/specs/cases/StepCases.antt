@@ -1,5 +1,6 @@
 -- THE TABLE OF STEPS (document 01, "Steps"; of two lines, document 02, wish 1): each from panels that are nowhere fresh, at the time 1,000, free since 900.
--- In `regs`: address; shift; I/D, S; D, C, B; width; Function Set bits. What the number of lines has no say in is a row of both chips.
+-- In `regs`: address; shift; I/D, S; D, C, B; width; Function Set bits; the next read is good, and where it is not they are `doubted` (document 02,
+-- wish 2; more of it in GoodCases). What the number of lines has no say in is a row of both chips.
 use Prim.Native.Nat.{ℕ, _+_, _*_, _/_, _%_}
 use mathlib.Core.Path.{refl}
 use mathlib.Core.List.{List, [], _∷_, _++_, map}
@@ -9,7 +10,7 @@ use Rattle.mirror.specs.Panel.{freshPanel}
 use Rattle.mirror.specs.declared.half.Half.the-variants.{Empty}
 use Rattle.mirror.specs.declared.panel.Panel.{Panel}
 use Rattle.demands.specs.cases.Logs.{instructAt, writeAt, statusAt, transferAt, resetAt}
-use Rattle.demands.specs.cases.RowCases.{Hold, Row, row, answered, recording, shows, draws, regs, regsOf, down, up, memoryOf, dots, with, panelWith, panelOn, held, missed, blank, afreshOf, afresh}
+use Rattle.demands.specs.cases.RowCases.{Hold, Row, row, answered, recording, shows, draws, regs, regsOf, down, up, memoryOf, dots, with, panelWith, panelOn, doubted, held, missed, blank, afreshOf, afresh}
 
 -- the busy end after 1,000 with the short time, 71, and with the long time, 2,003
 abbrev short : ℕ
@@ -35,40 +36,40 @@ module _ (chip : ℕ) where
   -- Clear: 20h everywhere in display memory, display address 0, shift 0, I/D = 1; S stays, and all else. From a panel with its width and half, a
   -- code; registers afterwards
   abbrev clear : Registers → ℕ → Registers → Row
-  clear before code after = row (panelOn chip before 900 Empty 800) (instructAt 1_000 code) 0 0 14 (panelWith (regsOf chip after) blank dots long Empty 1_000)
+  clear before code after = row (panelOn chip before 900 Empty 800) (instructAt 1_000 code) 0 0 14 (panelWith (regsOf chip (doubted after)) blank dots long Empty 1_000)
 
   abbrev clears : List Row
   clears =
       clear (down 8) 0x01 (regs (shows 0) 0 1 1 1 0 1 8 5)
       ∷ clear (up 8) 0x01 (regs (shows 0) 0 1 0 0 1 0 8 10)
-      ∷ row (panelOn chip (down 4) 900 (held 0 0 0) 800) (instructAt 1_000 0x1f) 0 0 14 (panelWith (regsOf chip (regs (shows 0) 0 1 1 1 0 1 4 5)) blank dots long Empty 1_000)
+      ∷ row (panelOn chip (down 4) 900 (held 0 0 0) 800) (instructAt 1_000 0x1f) 0 0 14 (panelWith (regsOf chip (doubted (regs (shows 0) 0 1 1 1 0 1 4 5))) blank dots long Empty 1_000)
       ∷ []
 
   -- Home: display address 0, shift 0; I/D and S stay, and the memories
   abbrev homes : List Row
   homes =
-      whole (down 8) 0x02 (regs (shows 0) 0 0 1 1 0 1 8 5) long
-      ∷ whole (up 8) 0x02 (regs (shows 0) 0 1 0 0 1 0 8 10) long
-      ∷ whole (down 8) 0x03 (regs (shows 0) 0 0 1 1 0 1 8 5) long
-      ∷ whole (up 8) 0x03 (regs (shows 0) 0 1 0 0 1 0 8 10) long
-      ∷ paired (down 4) 0x02 (regs (shows 0) 0 0 1 1 0 1 4 5) long
-      ∷ paired (up 4) 0x03 (regs (shows 0) 0 1 0 0 1 0 4 10) long
+      whole (down 8) 0x02 (doubted (regs (shows 0) 0 0 1 1 0 1 8 5)) long
+      ∷ whole (up 8) 0x02 (doubted (regs (shows 0) 0 1 0 0 1 0 8 10)) long
+      ∷ whole (down 8) 0x03 (doubted (regs (shows 0) 0 0 1 1 0 1 8 5)) long
+      ∷ whole (up 8) 0x03 (doubted (regs (shows 0) 0 1 0 0 1 0 8 10)) long
+      ∷ paired (down 4) 0x02 (doubted (regs (shows 0) 0 0 1 1 0 1 4 5)) long
+      ∷ paired (up 4) 0x03 (doubted (regs (shows 0) 0 1 0 0 1 0 4 10)) long
       ∷ []
 
   -- 04h to 07h: code, I/D, S; from both settings
   abbrev entry : ℕ → ℕ → ℕ → List Row
   entry code i s =
-      paired (down 4) code (regs (shows 9) 6 i s 1 0 1 4 5) short ∷ whole (up 8) code (regs (draws 22) 11 i s 0 1 0 8 10) short ∷ []
+      paired (down 4) code (doubted (regs (shows 9) 6 i s 1 0 1 4 5)) short ∷ whole (up 8) code (doubted (regs (draws 22) 11 i s 0 1 0 8 10)) short ∷ []
 
   -- 08h to 0Fh: code, D, C, B
   abbrev screen : ℕ → ℕ → ℕ → ℕ → List Row
   screen code d c b =
-      paired (down 4) code (regs (shows 9) 6 0 1 d c b 4 5) short ∷ whole (up 8) code (regs (draws 22) 11 1 0 d c b 8 10) short ∷ []
+      paired (down 4) code (doubted (regs (shows 9) 6 0 1 d c b 4 5)) short ∷ whole (up 8) code (doubted (regs (draws 22) 11 1 0 d c b 8 10)) short ∷ []
 
   -- 20h to 3Fh: code, width, bits kept; from width 4 and from width 8
   abbrev function : ℕ → ℕ → ℕ → List Row
   function code width bits =
-      paired (down 4) code (regs (shows 9) 6 0 1 1 0 1 width bits) short ∷ whole (up 8) code (regs (draws 22) 11 1 0 0 1 0 width bits) short ∷ []
+      paired (down 4) code (doubted (regs (shows 9) 6 0 1 1 0 1 width bits)) short ∷ whole (up 8) code (doubted (regs (draws 22) 11 1 0 0 1 0 width bits)) short ∷ []
 
   -- 40h to FFh: code, address; I/D, S and shift stay
   abbrev sets : ℕ → Address → List Row
@@ -95,9 +96,9 @@ module _ (chip : ℕ) where
   abbrev moves : List Row
   moves =
       map (λ code. paired (down 4) code (regs (shows 8) 6 0 1 1 0 1 4 5) short) (0x10 ∷ 0x11 ∷ 0x12 ∷ 0x13 ∷ [])
-      ++ map (λ code. whole (up 8) code (regs (draws 21) 11 1 0 0 1 0 8 10) short) (0x10 ∷ 0x11 ∷ 0x12 ∷ 0x13 ∷ [])
+      ++ map (λ code. whole (up 8) code (doubted (regs (draws 21) 11 1 0 0 1 0 8 10)) short) (0x10 ∷ 0x11 ∷ 0x12 ∷ 0x13 ∷ [])
       ++ map (λ code. paired (down 4) code (regs (shows 10) 6 0 1 1 0 1 4 5) short) (0x14 ∷ 0x15 ∷ 0x16 ∷ 0x17 ∷ [])
-      ++ map (λ code. whole (up 8) code (regs (draws 23) 11 1 0 0 1 0 8 10) short) (0x14 ∷ 0x15 ∷ 0x16 ∷ 0x17 ∷ [])
+      ++ map (λ code. whole (up 8) code (doubted (regs (draws 23) 11 1 0 0 1 0 8 10)) short) (0x14 ∷ 0x15 ∷ 0x16 ∷ 0x17 ∷ [])
       ++ map (λ code. paired (down 4) code (regs (shows 9) 7 0 1 1 0 1 4 5) short) (0x18 ∷ 0x19 ∷ 0x1a ∷ 0x1b ∷ [])
       ++ map (λ code. whole (up 8) code (regs (draws 22) 12 1 0 0 1 0 8 10) short) (0x18 ∷ 0x19 ∷ 0x1a ∷ 0x1b ∷ [])
       ++ map (λ code. paired (down 4) code (regs (shows 9) 5 0 1 1 0 1 4 5) short) (0x1c ∷ 0x1d ∷ 0x1e ∷ 0x1f ∷ [])
@@ -106,10 +107,10 @@ module _ (chip : ℕ) where
   -- the wraps of 10h to 1Fh that both chips have: 31 to 0 and 0 to 31 in pattern memory and not at 15; the shift 15 to 0 and 0 to 15
   abbrev turns : List Row
   turns =
-      whole (place (draws 31) 6 0 1) 0x14 (place (draws 0) 6 0 1) short
-      ∷ whole (place (draws 0) 6 1 1) 0x10 (place (draws 31) 6 1 1) short
-      ∷ whole (place (draws 15) 6 0 1) 0x14 (place (draws 16) 6 0 1) short
-      ∷ whole (place (draws 16) 6 1 1) 0x10 (place (draws 15) 6 1 1) short
+      whole (place (draws 31) 6 0 1) 0x14 (doubted (place (draws 0) 6 0 1)) short
+      ∷ whole (place (draws 0) 6 1 1) 0x10 (doubted (place (draws 31) 6 1 1)) short
+      ∷ whole (place (draws 15) 6 0 1) 0x14 (doubted (place (draws 16) 6 0 1)) short
+      ∷ whole (place (draws 16) 6 1 1) 0x10 (doubted (place (draws 15) 6 1 1)) short
       ∷ whole (place (shows 9) 15 0 1) 0x18 (place (shows 9) 0 0 1) short
       ∷ whole (place (shows 9) 0 1 1) 0x1c (place (shows 9) 15 1 1) short
       ∷ whole (place (draws 22) 15 0 0) 0x18 (place (draws 22) 0 0 0) short
@@ -123,12 +124,12 @@ module _ (chip : ℕ) where
   -- a data write at width 8: registers before, data; registers and both memories afterwards
   abbrev writes : Registers → ℕ → Registers → List ℕ → List ℕ → Row
   writes before byte after display pattern =
-      row (panelOn chip before 900 Empty 800) (writeAt 1_000 byte) 0 0 14 (panelWith (regsOf chip after) display pattern short Empty 1_000)
+      row (panelOn chip before 900 Empty 800) (writeAt 1_000 byte) 0 0 14 (panelWith (regsOf chip (doubted after)) display pattern short Empty 1_000)
 
   -- the same at width 4, where the high half waits
   abbrev pairWrites : Registers → ℕ → Registers → List ℕ → List ℕ → Row
   pairWrites before byte after display pattern =
-      row (panelOn chip before 900 (held 1 0 (byte / 16)) 800) (writeAt 1_000 (byte % 16 * 16 + 11)) 0 0 14 (panelWith (regsOf chip after) display pattern short Empty 1_000)
+      row (panelOn chip before 900 (held 1 0 (byte / 16)) 800) (writeAt 1_000 (byte % 16 * 16 + 11)) 0 0 14 (panelWith (regsOf chip (doubted after)) display pattern short Empty 1_000)
 
   -- display memory: the address moves by I/D; with S = 1 the shift moves too, left if I/D = 1, right if 0. Data of 00h and 01h is data
   abbrev displayWrites : List Row
@@ -232,8 +233,8 @@ onTwoLines =
     ∷ reads 35 (place (shows 15) 6 1 0) 0x0f (place (shows 16) 6 1 0)
     -- Clear, Home and Function Set from the second line
     ∷ clear 35 (place (shows 25) 6 0 1) 0x01 (place (shows 0) 0 1 1)
-    ∷ whole 35 (place (shows 25) 6 0 1) 0x03 (place (shows 0) 0 0 1) long
-    ∷ whole 35 (place (shows 25) 6 0 1) 0x3e (regs (shows 25) 6 0 1 1 0 1 8 14) short
+    ∷ whole 35 (place (shows 25) 6 0 1) 0x03 (doubted (place (shows 0) 0 0 1)) long
+    ∷ whole 35 (place (shows 25) 6 0 1) 0x3e (doubted (regs (shows 25) 6 0 1 1 0 1 8 14)) short
     -- a status read shows five bits of a display address: free, while busy, and the high half of two
     ∷ row (panelOn 35 (place (shows 25) 6 0 1) 900 Empty 800) (statusAt 1_000) 2 0x19 14 (panelOn 35 (place (shows 25) 6 0 1) 900 Empty 1_000)
     ∷ row (panelOn 35 (place (shows 16) 6 0 1) 1_001 Empty 800) (statusAt 1_000) 2 0x90 14 (panelOn 35 (place (shows 16) 6 0 1) 1_001 Empty 1_000)

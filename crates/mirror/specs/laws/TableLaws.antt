@@ -150,7 +150,7 @@ module _ (p : Panel) (log : List ℕ) where
       (row p log refl (rw k) (rw k) (g .size)))
 
 -- the number of an answer tells it
-named : (a : Answer) → answerOf (numberOf a) ≡ a
+pub named : (a : Answer) → answerOf (numberOf a) ≡ a
 named say.Taken = refl
 named say.Doubtful = refl
 named say.Held = refl
