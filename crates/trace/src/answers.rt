@@ -1,4 +1,6 @@
 // A line for each record of standard input, as its answer comes out of the stream.
+ghost use Rattle.desk.specs.Page.{Puts};
+ghost use Rattle.trace.specs.Line.{answerLine, tensOf};
 use desk::input::Input;
 use desk::page::PAGE;
 use desk::page::put;
@@ -16,7 +18,9 @@ pub struct Done {
 }
 
 // The tens of a number below 100, where it has any.
-fn put_tens(page: &mut [u8; PAGE], at: usize, number: u8) -> usize {
+fn put_tens(page: &mut [u8; PAGE], at: usize, number: u8) -> usize
+    ensures { λ r. ⌜ Puts (tensOf number) (now (page .entry)) at (now (page .exit)) r ⌝ }
+{
     if number < 10 {
         return at;
     }
@@ -24,7 +28,9 @@ fn put_tens(page: &mut [u8; PAGE], at: usize, number: u8) -> usize {
 }
 
 // The line of a record: the number of its answer in decimal, and its byte.
-pub(crate) fn put_line(page: &mut [u8; PAGE], at: usize, number: u8, byte: u8) -> usize {
+pub(crate) fn put_line(page: &mut [u8; PAGE], at: usize, number: u8, byte: u8) -> usize
+    ensures { λ r. ⌜ Puts (answerLine number byte) (now (page .entry)) at (now (page .exit)) r ⌝ }
+{
     let ones = put_tens(page, at, number);
     let digits = text::hex(byte);
     put(
