@@ -8,7 +8,6 @@ use Rattle.mirror.specs.declared.answer.Answer.the-variants.{Taken, Doub
 
 abbrev pub numberOf : Answer → ℕ
 numberOf Taken = 0
-numberOf Doubtful = 11
 numberOf Held = 1
 numberOf Status = 2
 numberOf Ignored = 3
@@ -18,6 +17,7 @@ numberOf Bad = 6
 numberOf Nothing = 7
 numberOf Cut = 8
 numberOf Unsound = 10
+numberOf Doubtful = 11
 
 -- and the answer of a number
 abbrev pub answerOf : ℕ → Answer
@@ -37,7 +37,7 @@ answerOf n =
 abbrev pub carriedOut : ℕ → Bool
 carriedOut n = eqb n 0 || eqb n 11
 
--- the counts are nine, of the answers that a record of a sound panel can have
+-- the counts are nine: of the answers 0 to 7, and of 11
 abbrev pub countPlaces : ℕ
 countPlaces = 9
 
@@ -48,7 +48,6 @@ placeOf n = pick (eqb n 0) 0 (pick (eqb n 11) 1 (pick (ltb n 8) (n + 1) countPla
 -- the byte that an answer carries: the byte read for reads answered 0, 1 or 2
 abbrev pub busByte : Answer → ℕ → ℕ
 busByte Taken byte = byte
-busByte Doubtful byte = 0
 busByte Held byte = byte
 busByte Status byte = byte
 busByte Ignored byte = 0
@@ -58,6 +57,7 @@ busByte Bad byte = 0
 busByte Nothing byte = 0
 busByte Cut byte = 0
 busByte Unsound byte = 0
+busByte Doubtful byte = 0
 
 -- what the paper says of an answer: its number and its bus byte
 pub record Paper : Type 0 where
