@@ -1,5 +1,6 @@
-// logs KIND RECORDS CHIP: writes a log for the benchmark to standard output, for a box with the chip 6631 or 6635. Kinds: eight (width 8, mostly taken writes, with
-// polling), four (width 4, in halves), damage (random damage to either).
+// logs KIND RECORDS CHIP: writes a log for the benchmark to standard output, for a box with the chip 6631 or 6635. Kinds: eight
+// (width 8, mostly taken writes, with polling), four (width 4, in halves), damage (random damage to eight), reads (width 8, a
+// third of it data reads, good and doubtful).
 #include <stdint.h>
 #include <stdio.h>
 #include <stdlib.h>
@@ -32,34 +33,65 @@ static void record(uint64_t time, int control, int byte) {
     fwrite(r, 1, 14, stdout);
 }
 
+typedef struct {
+    int control, byte, wait;
+} transfer;
+
+// Status reads, data writes, address sets, and Clear, now and then in haste.
+static transfer writing(int places) {
+    int what = next() % 100;
+    transfer t = {1, 0x20 + next() % 95, 40};
+    if (what < 30) {
+        t.control = 2;
+    } else if (what >= 75 && what < 97) {
+        t.control = 0;
+        t.byte = 0x80 + next() % places;
+    } else if (what >= 97) {
+        t.control = 0;
+        t.byte = 1;
+        t.wait = next() % 3 ? 1700 : 100;
+    }
+    return t;
+}
+
+// A third are data reads, the others mostly what makes the next one good or doubtful: data writes; address sets, one in four of
+// a pattern; cursor shifts. Display shifts and status reads leave it as it is.
+static transfer reading(int places) {
+    int what = next() % 100;
+    transfer t = {3, 0, 40};
+    if (what < 15) {
+        t.control = 2;
+    } else if (what < 45) {
+        t.control = 1;
+        t.byte = 0x20 + next() % 95;
+    } else if (what < 58) {
+        t.control = 0;
+        t.byte = (next() % 4 ? 0x80 : 0x40) + next() % places;
+    } else if (what < 67) {
+        t.control = 0;
+        t.byte = 0x10 + next() % 16;
+    }
+    return t;
+}
+
 int main(int argc, char **argv) {
     if (argc != 4) return 2;
-    int four = !strcmp(argv[1], "four");
+    int four = !strcmp(argv[1], "four"), reads = !strcmp(argv[1], "reads");
     long records = atol(argv[2]);
     int places = strcmp(argv[3], "6635") ? 16 : 32;
     uint64_t time = 0;
     damaged = !strcmp(argv[1], "damage");
     if (four) record(time, 0, 0x20);
     while (records > 0) {
-        int what = next() % 100, control = 1, byte = 0x20 + next() % 95, wait = 40;
-        if (what < 30) {
-            control = 2;
-        } else if (what >= 75 && what < 97) {
-            control = 0;
-            byte = 0x80 + next() % places;
-        } else if (what >= 97) {
-            control = 0;
-            byte = 1;
-            wait = next() % 3 ? 1700 : 100;
-        }
+        transfer t = reads ? reading(places) : writing(places);
         if (four) {
-            record(time, control, byte & 0xF0);
-            record(time + 1, control, byte << 4 & 0xF0);
+            record(time, t.control, t.byte & 0xF0);
+            record(time + 1, t.control, t.byte << 4 & 0xF0);
             records--;
         } else {
-            record(time, control, byte);
+            record(time, t.control, t.byte);
         }
         records--;
-        time += wait;
+        time += t.wait;
     }
 }

@@ -1,5 +1,5 @@
 // The mirror's logic in plain C, written for speed: the twin that `glazomir` is measured against. It reads a log on
-// standard input in blocks of 32 KiB and prints the same twelve lines. It serves both chips, as the mirror does: `chip 6635`
+// standard input in blocks of 32 KiB and prints the same thirteen lines. It serves both chips, as the mirror does: `chip 6635`
 // has two lines. The last place of display memory, 15 or 31, is handed in beside the panel: in it, it would be read again
 // after every byte that is stored.
 #include <stdint.h>
@@ -7,14 +7,15 @@
 #include <string.h>
 #include <unistd.h>
 
-enum { TAKEN, HELD, STATUS, IGNORED, TORN, BACK, BAD, NONE };
+// Each answer is the place of its count.
+enum { TAKEN, DOUBTFUL, HELD, STATUS, IGNORED, TORN, BACK, BAD, NONE, COUNTS };
 enum { EMPTY, MISSED, WAITING };
 enum { RESET_TIME = 10000, LONG_TIME = 1640, SHORT_TIME = 40 };
 
 typedef struct {
-    uint64_t busy, last, counts[8], records;
+    uint64_t busy, last, counts[COUNTS], records;
     uint8_t display[32], pattern[32];
-    uint8_t in_pattern, address, shift;
+    uint8_t in_pattern, address, shift, good;
     uint8_t up, follow, on, cursor, blink, eight, function;
     uint8_t half, half_rs, half_rw, nibble;
 } panel;
@@ -22,7 +23,7 @@ typedef struct {
 static void fresh(panel *p) {
     memset(p->display, 0x20, sizeof p->display);
     memset(p->pattern, 0, sizeof p->pattern);
-    p->in_pattern = p->address = p->shift = 0;
+    p->in_pattern = p->address = p->shift = p->good = 0;
     p->up = 1;
     p->follow = p->on = p->cursor = p->blink = 0;
     p->eight = 1;
@@ -39,33 +40,40 @@ static inline void obey(panel *p, uint8_t last_place, uint8_t code) {
     if (code >= 0x80) {
         p->in_pattern = 0;
         p->address = code & last_place;
+        p->good = 1;
     } else if (code >= 0x40) {
         p->in_pattern = 1;
         p->address = code & 31;
+        p->good = 1;
     } else if (code >= 0x20) {
         p->eight = code >> 4 & 1;
         p->function = code & 15;
+        p->good = 0;
     } else if (code >= 0x18) {
         p->shift = (p->shift + (code & 4 ? 15 : 1)) & 15;
     } else if (code >= 0x10) {
         step(p, last_place, code >> 2 & 1);
+        p->good = !p->in_pattern;
     } else if (code >= 0x08) {
         p->on = code >> 2 & 1;
         p->cursor = code >> 1 & 1;
         p->blink = code & 1;
+        p->good = 0;
     } else if (code >= 0x04) {
         p->up = code >> 1 & 1;
         p->follow = code & 1;
+        p->good = 0;
     } else {
         if (code == 0x01) {
             memset(p->display, 0x20, sizeof p->display);
             p->up = 1;
         }
-        p->in_pattern = p->address = p->shift = 0;
+        p->in_pattern = p->address = p->shift = p->good = 0;
     }
 }
 
 static inline void store(panel *p, uint8_t last_place, uint8_t byte) {
+    p->good = 0;
     if (p->in_pattern) {
         p->pattern[p->address] = byte & 31;
         step(p, last_place, p->up);
@@ -88,6 +96,21 @@ static inline int finish(panel *p, uint8_t last_place, uint64_t time, int rs, ui
     return TAKEN;
 }
 
+// A data read that is carried out. Good and doubtful are told apart where they are answered, as in the mirror.
+static inline int pass(panel *p, uint8_t last_place, uint64_t time) {
+    step(p, last_place, p->up);
+    p->busy = time + SHORT_TIME;
+    if (p->good) return TAKEN;
+    p->good = 1;
+    return DOUBTFUL;
+}
+
+// The byte at the address, where a read of it is good; otherwise 0.
+static inline uint8_t here(const panel *p) {
+    if (!p->good) return 0;
+    return p->in_pattern ? p->pattern[p->address] : p->display[p->address];
+}
+
 static inline int first(panel *p, uint64_t time, int rs, int rw, uint8_t byte) {
     p->half_rs = rs;
     p->half_rw = rw;
@@ -100,7 +123,7 @@ static inline int first(panel *p, uint64_t time, int rs, int rw, uint8_t byte) {
         p->half = MISSED;
         return IGNORED;
     }
-    p->nibble = rw ? (p->in_pattern ? p->pattern[p->address] : p->display[p->address]) & 15 : byte >> 4;
+    p->nibble = rw ? here(p) & 15 : byte >> 4;
     return HELD;
 }
 
@@ -122,9 +145,7 @@ static inline int transfer(panel *p, uint8_t last_place, uint64_t time, int rs, 
     if (p->eight) {
         if (rw && !rs) return STATUS;
         if (time < p->busy || !rw) return IGNORED;
-        step(p, last_place, p->up);
-        p->busy = time + SHORT_TIME;
-        return TAKEN;
+        return pass(p, last_place, time);
     }
     if (p->half == EMPTY) return first(p, time, rs, rw, byte);
     int missed = p->half == MISSED;
@@ -132,9 +153,7 @@ static inline int transfer(panel *p, uint8_t last_place, uint64_t time, int rs, 
     if (p->half_rs != rs || p->half_rw != rw) return TORN;
     if (missed) return IGNORED;
     if (!rs) return STATUS;
-    step(p, last_place, p->up);
-    p->busy = time + SHORT_TIME;
-    return TAKEN;
+    return pass(p, last_place, time);
 }
 
 // A transfer of the right length: its time and control are tested here.
@@ -187,7 +206,7 @@ static size_t consume(panel *p, uint8_t last_place, const uint8_t *log, size_t n
 static uint8_t block[32768 + 66];
 
 int main(int argc, char **argv) {
-    static const char *names[] = {"taken", "held", "status", "ignored", "torn", "back", "bad", "none"};
+    static const char *names[] = {"taken", "doubtful", "held", "status", "ignored", "torn", "back", "bad", "none"};
     panel p = {0};
     size_t kept = 0;
     int cut = 0;
@@ -200,7 +219,7 @@ int main(int argc, char **argv) {
         memmove(block, block + used, kept);
     }
     printf("records %llu\n", (unsigned long long)p.records);
-    for (int i = 0; i < 8; i++) printf("%s %llu\n", names[i], (unsigned long long)p.counts[i]);
+    for (int i = 0; i < COUNTS; i++) printf("%s %llu\n", names[i], (unsigned long long)p.counts[i]);
     printf("cut %d\n%s %02X\ncodes", cut || kept, p.in_pattern ? "pattern" : "address", p.address);
     for (int i = 0; i <= last_place; i++) printf(" %02X", p.display[i]);
     printf("\n");

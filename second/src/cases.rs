@@ -1,12 +1,14 @@
 //! The rules' own cases A to M, the examples of the report and of the wall, the
-//! sample night, and the four-record example; those of two lines by themselves.
+//! sample night, and the four-record example; those of two lines and of the read
+//! after a write by themselves.
 
+mod reads;
 mod two_lines;
 
 use crate::arguments;
 use crate::chip::{Counter, DisplayAddress, PatternAddress, Sheet};
 use crate::chips::Chip;
-use crate::log;
+use crate::log::{self, write_transfers as at_times};
 use crate::panel::{self, Panel, Run, Times};
 use crate::picture::{self, Painting, FONT_SIZE};
 use crate::prints;
@@ -24,10 +26,7 @@ pub struct Case {
 const INSTRUCTION: u8 = 0;
 const DATA: u8 = 1;
 const STATUS: u8 = 2;
-
-fn at_times(transfers: &[(u64, u8, u8)]) -> Vec<u8> {
-    transfers.iter().flat_map(|&(time, control, data)| log::write_transfer(time, control, data)).collect()
-}
+const DATA_READ: u8 = 3;
 
 /// Where no time is given, records come 40 apart from 0.
 fn forty_apart(transfers: &[(u8, u8)]) -> Vec<u8> {
@@ -41,6 +40,11 @@ fn forty_apart(transfers: &[(u8, u8)]) -> Vec<u8> {
 
 fn numbers(run: &Run) -> Vec<u8> {
     run.answers.iter().map(|answer| answer.number).collect()
+}
+
+/// Whether these are the answers, each with its byte.
+fn answered(run: &Run, expected: &[(u8, u8)]) -> bool {
+    run.answers.iter().map(|answer| (answer.number, answer.byte)).eq(expected.iter().copied())
 }
 
 fn at_display(sheet: &Sheet, address: u8) -> bool {
@@ -57,6 +61,7 @@ fn fresh(chip: Chip) -> Panel {
 
 pub fn all() -> Vec<Case> {
     let mut all = two_lines::all();
+    all.extend(reads::all());
     all.extend(busy_and_halves());
     all.extend(steps());
     all.extend(reports());
@@ -149,7 +154,7 @@ fn pictures_and_prints() -> Vec<Case> {
             painting == Painting::Lit(5) && frame[70] == 0xF8 && others_dark
         }),
         case("M", Vec::new(), |panel, run, _| {
-            run.counts == [0; 8] && !run.cut && *panel == fresh(Chip::ONE_LINE)
+            run.counts == [0; 9] && !run.cut && *panel == fresh(Chip::ONE_LINE)
         }),
         case("the wall's example", at_times(&[(0, INSTRUCTION, 0x0E), (40, DATA, 0x57)]), |_, _, log| {
             let asked =
@@ -204,6 +209,7 @@ record	second	time	clock	answer	what	byte	meaning
 6	-	1700	00:00:00.001700	back	status-read	-	-
 summary	records	6
 summary	taken	2
+summary	doubtful	0
 summary	held	0
 summary	status	0
 summary	ignored	2
@@ -221,6 +227,7 @@ summary	runs-too-long	0
 const NIGHT_SUMMARY: &str = "\
 summary	records	423
 summary	taken	126
+summary	doubtful	0
 summary	held	0
 summary	status	278
 summary	ignored	16
@@ -238,6 +245,7 @@ summary	runs-too-long	0
 const FOUR_GLAZOMIR: &str = "\
 records 4
 taken 2
+doubtful 0
 held 0
 status 1
 ignored 1
@@ -257,7 +265,7 @@ const FOUR_TRACE: &str = "\
 2 01
 records 4
 cut 0
-counts 2 0 1 1 0 0 0 0
+counts 2 0 0 1 1 0 0 0 0
 sound 1
 chip 31
 display 57 20 20 20 20 20 20 20 20 20 20 20 20 20 20 20
@@ -269,6 +277,7 @@ screen 0 0 0
 width 8 function 0
 busy 1780 last 1780
 half none
+good 0
 ";
 
 fn four_trace() -> String {

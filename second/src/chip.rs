@@ -53,6 +53,15 @@ pub enum Width {
     Four,
 }
 
+impl Width {
+    pub fn bits(self) -> u8 {
+        match self {
+            Width::Eight => 8,
+            Width::Four => 4,
+        }
+    }
+}
+
 /// Everything that the sheet describes.
 #[derive(Clone, Debug, PartialEq)]
 pub struct Sheet {
@@ -74,6 +83,8 @@ pub struct Sheet {
     pub width: Width,
     /// The low four Function Set bits, kept as written.
     pub function: u8,
+    /// Whether the next data read is good.
+    pub good: bool,
 }
 
 /// Something that the machine carries out, always whole.
@@ -100,10 +111,12 @@ impl Sheet {
             b: false,
             width: Width::Eight,
             function: 0,
+            good: false,
         }
     }
 
     pub fn carry_out(&mut self, entry: Entry) {
+        let good = self.good_after(entry);
         match entry {
             // It is the same chip afterwards.
             Entry::Reset => *self = Sheet::fresh(self.chip),
@@ -112,9 +125,30 @@ impl Sheet {
             // A read never shifts the display, whatever S is.
             Entry::Read => self.move_counter(self.i_d),
         }
+        self.good = good;
     }
 
-    /// The byte that a data read gives.
+    /// Whether the next data read is good once this is carried out: it is after
+    /// an address set, a cursor shift in display memory, or another read.
+    fn good_after(&self, entry: Entry) -> bool {
+        match entry {
+            // A doubtful read makes the next one good too.
+            Entry::Read => true,
+            Entry::Reset | Entry::Write(_) => false,
+            Entry::Instruction(0x40..=0xFF) => true,
+            Entry::Instruction(0x10..=0x17) => self.is_in_display(),
+            // Nothing at all, and a display shift, leave it alone.
+            Entry::Instruction(0x00 | 0x18..=0x1F) => self.good,
+            Entry::Instruction(_) => false,
+        }
+    }
+
+    /// Whether the address points into display memory.
+    pub fn is_in_display(&self) -> bool {
+        matches!(self.counter, Counter::Display(_))
+    }
+
+    /// The byte that a good data read gives.
     pub fn byte_at_address(&self) -> u8 {
         match self.counter {
             Counter::Display(DisplayAddress(at)) => self.display[usize::from(at)],
@@ -178,6 +212,8 @@ impl Sheet {
     }
 }
 
+#[cfg(test)]
+mod good;
 #[cfg(test)]
 mod tests;
 #[cfg(test)]

@@ -3,11 +3,13 @@
 //! that are refused, and panels of no known chip.
 
 mod lines;
+mod reads;
 mod report;
 mod wall;
 
 use crate::chips::Chip;
 pub use lines::UNKNOWN_CHIPS;
+pub use reads::{BY_RECORDS, FRESH_START, FROM_FRESH, HANDED_IN, IN_PIECES};
 
 /// What the classes of a program begin with; those of `trace` begin with
 /// nothing. They are wanted where the program is compared.
@@ -99,15 +101,15 @@ const UNSOUND: [&str; 10] = [
 ];
 
 /// Words and files that are refused before there is a chip.
-const REFUSED: [&str; 19] = [
-    "size of the file", "memory of the counter", "I/D", "S", "D", "C", "B", "width", "RS of the half",
+const REFUSED: [&str; 20] = [
+    "size of the file", "memory of the counter", "I/D", "S", "D", "C", "B", "width", "good", "RS of the half",
     "R/W of the half", "sort of the half", "RS where none waits", "R/W where none waits",
     "nibble where none waits", "nibble of an ignored half", "file missing", "file not readable",
     "frame file too long", "group given twice",
 ];
 
 /// With the word `records`.
-const BY_RECORDS: [&str; 15] = [
+const RECORD_BY_RECORD: [&str; 15] = [
     "empty log", "cut log", "log longer than a block", "cut log longer than a block", "record of length 2",
     "record of length 64", "panel handed in", "half handed in", "fed in pieces", "cut log, in pieces",
     "log longer than a block, in pieces", "10 over records", "10 with a cut log", "10 on an empty log",
@@ -130,7 +132,7 @@ fn prefixed(prefix: &str, classes: &[String]) -> Vec<String> {
 
 /// What is wanted of this chip.
 pub fn of_chip(chip: Chip) -> Vec<String> {
-    let mut all: Vec<String> = (0..=10).map(|number| format!("answer {number}")).collect();
+    let mut all: Vec<String> = (0..=11).map(|number| format!("answer {number}")).collect();
     for transfer in TRANSFERS {
         for width in [8, 4] {
             for state in ["free", "busy"] {
@@ -141,8 +143,9 @@ pub fn of_chip(chip: Chip) -> Vec<String> {
     let lists: [&[&str]; 8] = [&CLOCK, &BAD, &HALVES, &RESETS, &STEPS, &ENDS, &PICTURES, &LENT];
     all.extend(owned(&lists.concat()));
     all.extend(UNSOUND.map(|fault| format!("unsound: {fault}")));
-    all.extend(BY_RECORDS.map(|class| format!("records: {class}")));
+    all.extend(RECORD_BY_RECORD.map(|class| format!("records: {class}")));
     all.extend(lines::of_chip(chip));
+    all.extend(reads::of_every_chip());
     all.extend(prefixed(REPORT, &report::of_every_chip()));
     all.extend(prefixed(WALL, &wall::of_chip(chip)));
     all.extend(prefixed(GLAZOMIR, &lines::of_glazomir(chip)));

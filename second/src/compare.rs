@@ -11,7 +11,6 @@ use crate::observe;
 use crate::observe_report;
 use crate::observe_wall;
 use crate::observe_words;
-use crate::panel::Panel;
 use crate::questions::{self, Question, Which};
 use crate::reach::Reach;
 use crate::start;
@@ -189,7 +188,7 @@ pub fn model_alone(question: &Question, words: &[String], tally: &Tally, reach: 
 
 fn demand_three(trial: &Trial, lent: &Lent, tally: &Tally) {
     let (chip, times) = (lent.panel.sheet.chip, lent.panel.times);
-    if !lent.panel.is_sound() || lent.panel != Panel::fresh(chip, times) {
+    if !lent.panel.is_sound() || !lent.panel.is_fresh() {
         return;
     }
     tally.demands.fetch_add(1, SeqCst);

@@ -1,14 +1,14 @@
-//! Demand 3: replay of the taken entries on the sheet's machine, and
+//! Demand 3: replay of the entries that were carried out on the sheet's machine, and
 //! striking of the records that did nothing. Both work from the log and its
 //! answers alone, and know nothing of how the panel keeps halves.
 
 use crate::chip::{Entry, Sheet, Width};
 use crate::chips::Chip;
-use crate::log::{self, Message};
+use crate::log::{self, Message, Transfer};
 use crate::panel::number::*;
 use crate::panel::{self, Answer, Panel, Run, Times};
 
-/// Carries out the entries answered "taken", a pair of halves as one.
+/// Carries out the entries answered "taken" or "doubtful", a pair of halves as one.
 pub fn replay(chip: Chip, log: &[u8], answers: &[Answer]) -> Sheet {
     let mut sheet = Sheet::fresh(chip);
     let mut high = 0;
@@ -16,15 +16,15 @@ pub fn replay(chip: Chip, log: &[u8], answers: &[Answer]) -> Sheet {
         let Some(message) = log::message(record) else { continue };
         match (answer.number, message) {
             (HELD, Message::Transfer(first)) => high = first.data & 0xF0,
-            (TAKEN, Message::Reset { .. }) => sheet.carry_out(Entry::Reset),
-            (TAKEN, Message::Transfer(taken)) => {
+            (number, _) if !is_carried_out(number) => {}
+            (_, Message::Reset { .. }) => sheet.carry_out(Entry::Reset),
+            (_, Message::Transfer(Transfer { rs, rw, data, .. })) => {
                 let byte = match sheet.width {
-                    Width::Eight => taken.data,
-                    Width::Four => high | taken.data >> 4,
+                    Width::Eight => data,
+                    Width::Four => high | data >> 4,
                 };
-                sheet.carry_out(entry(taken.rs, taken.rw, byte));
+                sheet.carry_out(entry(rs, rw, byte));
             }
-            _ => {}
         }
     }
     sheet
@@ -48,11 +48,13 @@ pub fn stays(answers: &[Answer]) -> Vec<bool> {
     let mut keep = vec![true; answers.len()];
     let mut held = None;
     for (at, answer) in answers.iter().enumerate() {
-        keep[at] = matches!(answer.number, TAKEN | HELD);
+        let carried_out = is_carried_out(answer.number);
+        keep[at] = carried_out || answer.number == HELD;
         match answer.number {
             BACK | BAD => {}
             HELD => held = Some(at),
-            TAKEN | IGNORED => held = None,
+            IGNORED => held = None,
+            _ if carried_out => held = None,
             _ => {
                 if let Some(first) = held.take() {
                     keep[first] = false;
@@ -80,7 +82,7 @@ pub fn check(chip: Chip, times: Times, log: &[u8]) -> Result<(), &'static str> {
     let mut panel = fresh.clone();
     let run = panel::run(&mut panel, log);
     if run.counts.iter().sum::<u64>() != run.records {
-        return Err("the eight counts do not add up to the records");
+        return Err("the nine counts do not add up to the records");
     }
     if replay(chip, log, &run.answers) != panel.sheet {
         return Err("the replay ends with another sheet");
@@ -129,6 +131,46 @@ mod tests {
         assert_eq!(kept(&[TAKEN, HELD, BAD, BACK, TORN]), [0]);
         assert_eq!(kept(&[TAKEN, HELD, STATUS, HELD, NONE]), [0]);
         assert_eq!(kept(&[TAKEN, IGNORED, IGNORED, IGNORED, TORN]), [0]);
+    }
+
+    #[test]
+    fn doubtful_counts_as_taken() {
+        assert_eq!(kept(&[DOUBTFUL, IGNORED, DOUBTFUL, STATUS]), [0, 2]);
+        assert_eq!(kept(&[TAKEN, HELD, BACK, DOUBTFUL, HELD, TORN]), [0, 1, 3]);
+        assert_eq!(kept(&[TAKEN, HELD, DOUBTFUL, NONE]), [0, 1, 2], "its first half is its own");
+    }
+
+    /// 04h, a write and two reads down, the first of them doubtful, as whole
+    /// transfers and as halves.
+    #[test]
+    fn the_replay_carries_doubtful_reads_out() {
+        let wide = [(0, 0, 0x04), (40, 1, 0x57), (80, 3, 0), (120, 3, 0)];
+        let narrow = [
+            (0, 0, 0x20), (40, 0, 0x00), (41, 0, 0x40), (81, 1, 0x50), (82, 1, 0x70), (122, 3, 0), (123, 3, 0),
+            (163, 3, 0), (164, 3, 0),
+        ];
+        for (sent, numbers) in [(&wide[..], &[0, 0, 11, 0][..]), (&narrow, &[0, 1, 0, 1, 0, 1, 11, 1, 0])] {
+            let log = log::write_transfers(sent);
+            let mut panel = Panel::fresh(Chip::ONE_LINE, Times::USUAL);
+            let answers = panel::run(&mut panel, &log).answers;
+            assert_eq!(answers.iter().map(|answer| answer.number).collect::<Vec<_>>(), numbers);
+            let sheet = replay(Chip::ONE_LINE, &log, &answers);
+            assert_eq!((sheet.counter.number(), sheet.good), (13, true));
+            assert_eq!(sheet, panel.sheet);
+        }
+    }
+
+    /// The next read is good or not after striking as before.
+    #[test]
+    fn what_is_good_ends_the_same() {
+        for (last, good) in [((0, 0x80), true), ((1, 0x57), false), ((3, 0), true)] {
+            let log =
+                log::write_transfers(&[(0, 0, 0x80), (39, 1, 0x57), (40, last.0, last.1), (79, 0, 0x01), (80, 2, 0)]);
+            let mut panel = Panel::fresh(Chip::TWO_LINES, Times::USUAL);
+            let answers = panel::run(&mut panel, &log).answers;
+            assert_eq!((panel.sheet.good, replay(Chip::TWO_LINES, &log, &answers).good), (good, good));
+            assert_eq!(check(Chip::TWO_LINES, Times::USUAL, &log), Ok(()));
+        }
     }
 
     #[test]

@@ -1,6 +1,7 @@
 //! Trials: a log and what the run over it is lent, made anew from a seed and
 //! a turn. Some logs are damaged after they are sent.
 
+use crate::chip::Width;
 use crate::chips::Chip;
 use crate::lend::{self, Group, Word};
 use crate::log;
@@ -121,13 +122,10 @@ pub fn night(seed: u64, turn: u64) -> Trial {
 /// part in what is written again.
 pub fn short_night() -> Vec<u8> {
     let (instruction, data, status) = (0, 1, 2);
-    let mut log = Vec::new();
-    for (time, control, byte) in [
+    let mut log = log::write_transfers(&[
         (0, instruction, 0x20), (39, data, 0x50), (38, data, 0x50), (45, data, 0x70), (46, data, 0x50),
         (47, data, 0x70), (60, data, 0x50), (61, status, 0), (62, instruction, 0x80),
-    ] {
-        log.extend(log::write_transfer(time, control, byte));
-    }
+    ]);
     log.extend(log::write_reset(63));
     log
 }
@@ -142,6 +140,21 @@ pub fn endless_night() -> Vec<u8> {
         log.extend(log::write_transfer(2_000 + 40 * n, 1, b'A'));
     }
     log
+}
+
+/// Every code with a read behind it, sent at this width to a fresh panel.
+pub fn codes_before_reads(seed: u64, chip: Chip, width: Width) -> Vec<u8> {
+    let mut random = Random::new(seed, u64::MAX - 1);
+    sender::send_codes_before_reads(&mut random, Panel::fresh(chip, Times::USUAL), width)
+}
+
+/// Data reads, whole or as halves, whatever the width is: behind a half that tears
+/// one which waits; behind a reset; at once; and one alone, which may be a half.
+pub fn first_reads() -> [Vec<u8>; 4] {
+    let read = |time| log::write_transfer(time, 3, 0xFF);
+    let reads = |from: u64| (from..).step_by(40).take(4).flat_map(read).collect::<Vec<u8>>();
+    let status = log::write_transfer(0, 2, 0xFF);
+    [[status, reads(0)].concat(), [log::write_reset(0), reads(65_535)].concat(), reads(0), read(0)]
 }
 
 /// A log far longer than any buffer that a program may keep.

@@ -6,7 +6,7 @@ use crate::chips::Chip;
 use crate::generator::{self, Trial};
 use crate::lend::{self, files, text, Group, Word};
 use crate::log::{self, TIME_LIMIT};
-use crate::panel::number::{BACK, BAD};
+use crate::panel::number::{BACK, BAD, DOUBTFUL};
 use crate::panel::{Panel, Times};
 use crate::picture::FONT_SIZE;
 use crate::random::Random;
@@ -106,6 +106,27 @@ pub fn two_lines_by_time() -> Vec<Trial> {
     trials
 }
 
+/// A cursor that two reads move, the first of them doubtful, at every time at
+/// which it moves: whole, and as halves.
+pub fn doubtful_reads_by_time() -> Vec<Trial> {
+    let (instruction, read) = (0, 3);
+    let wide = log::write_transfers(&[(0, instruction, 0x0E), (100, read, 0), (200, read, 0)]);
+    let narrow = log::write_transfers(&[
+        (0, instruction, 0x0E), (40, instruction, 0x20), (100, read, 0), (101, read, 0), (200, read, 0),
+    ]);
+    let mut trials = Vec::new();
+    for chip in Chip::KNOWN {
+        for (words, log) in
+            [("ascii at 99", &wide), ("pbm at 100", &wide), ("at 100 ascii", &narrow), ("pbm at 101", &narrow)]
+        {
+            let mut groups = lend::chip_words(chip);
+            groups.extend([text(words), files("font", vec![cases::wall_font()])]);
+            trials.push(Trial { groups, log: log.clone() });
+        }
+    }
+    trials
+}
+
 /// The example of docs/WALL.md with its font, and logs of hardly anything.
 pub fn example_and_edges() -> Vec<Trial> {
     let log = [log::write_transfer(0, 0, 0x0E), log::write_transfer(40, 1, 0x57)].concat();
@@ -179,8 +200,9 @@ fn cut(random: &mut Random, log: &mut Vec<u8>) {
 pub struct Moment {
     /// Where in the log it begins.
     pub offset: usize,
-    /// Answered 0 to 4 or 7.
+    /// Answered 0 to 4, 7 or 11.
     pub has_a_say: bool,
+    pub is_doubtful: bool,
     /// The time that it tells, if it is long enough to tell one.
     pub time: Option<u64>,
     /// Afterwards.
@@ -193,21 +215,28 @@ pub fn moments(start: &Panel, log: &[u8]) -> Vec<Moment> {
     let mut moments = Vec::new();
     let mut offset = 0;
     for record in log::records(log).0 {
-        let has_a_say = !matches!(panel.answer(record).number, BACK | BAD);
+        let answer = panel.answer(record).number;
+        let (has_a_say, is_doubtful) = (!matches!(answer, BACK | BAD), answer == DOUBTFUL);
         let time = record.get(4..12).map(|bytes| u64::from_le_bytes(bytes.try_into().expect("8 bytes")));
-        moments.push(Moment { offset, has_a_say, time, busy_end: panel.busy_end });
+        moments.push(Moment { offset, has_a_say, is_doubtful, time, busy_end: panel.busy_end });
         offset += record.len();
     }
     moments
 }
 
-/// A time at, just before or just after a record's, good or not; a busy end;
-/// or one of the two ends of time.
+/// A time at, just before or just after a record's, whether or not it has a say;
+/// just before a doubtful read's; a busy end; or one of the two ends of time.
 fn time_to_ask(random: &mut Random, start: &Panel, log: &[u8]) -> u64 {
     let moments = moments(start, log);
-    let wants_good = random.chance(75);
+    let doubtful: Vec<&Moment> = moments.iter().filter(|moment| moment.is_doubtful).collect();
+    if !doubtful.is_empty() && random.chance(25) {
+        // The glass before it was read, and as it left it.
+        let time = random.pick(&doubtful).time.unwrap_or(0);
+        return random.pick(&[time.saturating_sub(1), time.saturating_sub(1), time]);
+    }
+    let wants_a_say = random.chance(75);
     let sort: Vec<&Moment> =
-        moments.iter().filter(|moment| moment.has_a_say == wants_good && moment.time.is_some()).collect();
+        moments.iter().filter(|moment| moment.has_a_say == wants_a_say && moment.time.is_some()).collect();
     let ends = random.pick(&[0, TIME_LIMIT, TIME_LIMIT - 1]);
     if sort.is_empty() || random.chance(12) {
         return ends;

@@ -111,6 +111,11 @@ pub fn write_transfer(time: u64, control: u8, data: u8) -> Vec<u8> {
     write_record(1, &body)
 }
 
+/// Transfers one after another: time, control and data of each.
+pub fn write_transfers(transfers: &[(u64, u8, u8)]) -> Vec<u8> {
+    transfers.iter().flat_map(|&(time, control, data)| write_transfer(time, control, data)).collect()
+}
+
 pub fn write_reset(time: u64) -> Vec<u8> {
     write_record(2, &time.to_le_bytes())
 }

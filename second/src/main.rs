@@ -28,6 +28,7 @@ mod log;
 mod observe;
 mod observe_lent;
 mod observe_lines;
+mod observe_reads;
 mod observe_report;
 mod observe_unknown;
 mod observe_wall;

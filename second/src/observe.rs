@@ -2,25 +2,27 @@
 //! meets.
 
 use crate::arguments::Lent;
+use crate::classes::{BY_RECORDS, FRESH_START, FROM_FRESH, HANDED_IN, IN_PIECES};
 use crate::chip::{Counter, Sheet, Width};
 use crate::log::{self, Message, Transfer, TIME_LIMIT};
 use crate::observe_lent;
 use crate::observe_lines;
+use crate::observe_reads::{self, Trail};
 use crate::panel::number::*;
 use crate::panel::{is_status, Answer, Half, Panel};
 use crate::questions::Question;
 use crate::reach::Reach;
+use crate::start::Feed;
 
 /// One record with the panel on either side of it.
-struct Step<'a> {
-    before: &'a Panel,
+pub struct Step<'a> {
+    pub before: &'a Panel,
     record: &'a [u8],
-    answer: Answer,
-    after: &'a Panel,
+    pub answer: Answer,
+    pub after: &'a Panel,
 }
 
 /// What an observer remembers from one record to the next.
-#[derive(Default)]
 struct Memory {
     /// Data byte, time and freedom of the first half that waits.
     first: Option<(u8, u64, bool)>,
@@ -28,6 +30,8 @@ struct Memory {
     latest: Option<u8>,
     /// Until when an ignored transfer would wait, had it been taken.
     wrong_wait: u64,
+    /// What became of whether the next read is good.
+    trail: Trail,
 }
 
 /// Notes what a question to `trace` reaches; `lent` is the refusal where there
@@ -44,14 +48,29 @@ pub fn question(reach: &mut Reach, question: &Question, lent: Result<&Lent, &str
         observe_lent::by_records(reach, question, lent);
     }
     if lent.panel.is_sound() {
-        let panel = run(reach, &lent.panel, log);
+        let panel = run(reach, &lent.panel, log, trail(question, &lent.panel));
         observe_lent::painting(reach, lent, &panel);
+        observe_reads::end(reach, &panel);
     }
 }
 
-fn run(reach: &mut Reach, start: &Panel, log: &[u8]) -> Panel {
+fn trail(question: &Question, start: &Panel) -> Trail {
+    let mut ways = Vec::new();
+    if start.is_fresh() {
+        ways.push(FROM_FRESH);
+    }
+    if question.trial.gives("records") {
+        ways.push(BY_RECORDS);
+    }
+    if matches!(question.feed, Feed::Pieces(_)) {
+        ways.push(IN_PIECES);
+    }
+    Trail::new(if question.trial.gives("panel") { HANDED_IN } else { FRESH_START }, ways)
+}
+
+fn run(reach: &mut Reach, start: &Panel, log: &[u8], trail: Trail) -> Panel {
     let (records, cut) = log::records(log);
-    let mut memory = Memory::default();
+    let mut memory = Memory { first: None, latest: None, wrong_wait: 0, trail };
     let mut panel = start.clone();
     for record in &records {
         let before = panel.clone();
@@ -59,7 +78,10 @@ fn run(reach: &mut Reach, start: &Panel, log: &[u8]) -> Panel {
         let step = Step { before: &before, record, answer, after: &panel };
         reach.note(&format!("answer {}", answer.number));
         match log::message(record) {
-            None => bad(reach, &step),
+            None => {
+                bad(reach, &step);
+                memory.trail.pass_over(&before, "bad record");
+            }
             Some(message) => usable(reach, &step, &mut memory, message),
         }
         if !matches!(answer.number, BACK | BAD) {
@@ -103,7 +125,7 @@ fn bad(reach: &mut Reach, step: &Step) {
 fn usable(reach: &mut Reach, step: &Step, memory: &mut Memory, message: Message) {
     let Step { before, answer, after, .. } = *step;
     if answer.number == BACK {
-        return back(reach, before, message);
+        return back(reach, before, memory, message);
     }
     reach.note_if(message.time() == TIME_LIMIT - 1, "time 2^48 - 1 used");
     reach.note_if(after.busy_end >= TIME_LIMIT, "busy end of 2^48 or more");
@@ -111,23 +133,28 @@ fn usable(reach: &mut Reach, step: &Step, memory: &mut Memory, message: Message)
     match message {
         Message::Reset { time } => {
             reset(reach, before, time);
-            memory.first = None;
+            let half_is_own = memory.first.take().is_some();
+            memory.trail.reset(reach, before, half_is_own);
         }
         Message::Transfer(transfer) => {
             clock(reach, before, transfer, memory, answer.number);
+            memory.trail.begin(reach, step, transfer);
             carried(reach, step, memory, transfer);
         }
     }
 }
 
-fn back(reach: &mut Reach, before: &Panel, message: Message) {
+fn back(reach: &mut Reach, before: &Panel, memory: &mut Memory, message: Message) {
     let is_reset = matches!(message, Message::Reset { .. });
     let waits = before.half.is_some();
-    reach.note_if(message.time() + 1 == before.last, "one back");
+    let one_back = message.time() + 1 == before.last;
+    reach.note_if(one_back, "one back");
+    reach.note_if(one_back && memory.trail.is_at_doubtful(before), "one back after a doubtful read");
     reach.note_if(message.time() == 0, "back to 0");
     reach.note_if(is_reset, "reset back");
     reach.note_if(waits, "back between halves");
     reach.note_if(is_reset && waits, "back reset between halves");
+    memory.trail.pass_over(before, if is_reset { "back reset" } else { "back transfer" });
 }
 
 fn reset(reach: &mut Reach, before: &Panel, time: u64) {
@@ -167,6 +194,7 @@ fn carried(reach: &mut Reach, step: &Step, memory: &mut Memory, transfer: Transf
     let free = before.is_free(transfer.time);
     if before.sheet.width == Width::Eight {
         note_transfer(reach, &before.sheet, transfer, free);
+        memory.trail.complete(reach, step, transfer);
         return steps(reach, step, transfer);
     }
     if before.half.is_none() {
@@ -174,9 +202,13 @@ fn carried(reach: &mut Reach, step: &Step, memory: &mut Memory, transfer: Transf
         return first_half(reach, memory, transfer, answer);
     }
     second_half(reach, step, memory, transfer);
+    if answer.number == TORN {
+        memory.trail.tear(before);
+    }
     if let (Some((high, first_time, free)), true) = (memory.first.take(), answer.number != TORN) {
         let whole = Transfer { data: high & 0xF0 | transfer.data >> 4, ..transfer };
         note_transfer(reach, &before.sheet, whole, free);
+        memory.trail.complete(reach, step, whole);
         steps(reach, step, whole);
         reach.note_if(transfer.time == first_time, "second half at the first's time");
         reach.note_if(answer.number == NONE, "00h as two halves");
@@ -188,7 +220,7 @@ fn carried(reach: &mut Reach, step: &Step, memory: &mut Memory, transfer: Transf
 fn note_transfer(reach: &mut Reach, sheet: &Sheet, transfer: Transfer, free: bool) {
     let wide = sheet.width == Width::Eight;
     let name = transfer_name(sheet, transfer);
-    let width = if wide { 8 } else { 4 };
+    let width = sheet.width.bits();
     let state = if free { "free" } else { "busy" };
     reach.note(&format!("{name}, width {width}, {state}"));
     if name == "status read" {
@@ -199,7 +231,7 @@ fn note_transfer(reach: &mut Reach, sheet: &Sheet, transfer: Transfer, free: boo
     }
 }
 
-fn transfer_name(sheet: &Sheet, transfer: Transfer) -> &'static str {
+pub fn transfer_name(sheet: &Sheet, transfer: Transfer) -> &'static str {
     let in_display = matches!(sheet.counter, Counter::Display(_));
     match (transfer.rs, transfer.rw, in_display) {
         (false, true, _) => "status read",
@@ -243,7 +275,7 @@ fn first_half(reach: &mut Reach, memory: &Memory, transfer: Transfer, answer: An
     }
 }
 
-fn second_half(reach: &mut Reach, step: &Step, memory: &Memory, transfer: Transfer) {
+fn second_half(reach: &mut Reach, step: &Step, memory: &mut Memory, transfer: Transfer) {
     let Step { before, answer, .. } = *step;
     let Some(Half { rs, rw, nibble }) = before.half else { return };
     let ignored = nibble.is_none();
@@ -255,7 +287,7 @@ fn second_half(reach: &mut Reach, step: &Step, memory: &Memory, transfer: Transf
         (false, false) => {}
     }
     let Some((_, _, began_free)) = memory.first else {
-        return handed_in(reach, before, answer.number);
+        return handed_in(reach, step, memory);
     };
     let free = before.is_free(transfer.time);
     reach.note_if(ignored && free && answer.number == IGNORED, "ignored pair whose second half is free");
@@ -266,9 +298,11 @@ fn second_half(reach: &mut Reach, step: &Step, memory: &Memory, transfer: Transf
 }
 
 /// The half came with the panel file, not from this log.
-fn handed_in(reach: &mut Reach, before: &Panel, answer: u8) {
+fn handed_in(reach: &mut Reach, step: &Step, memory: &mut Memory) {
+    let (before, answer) = (step.before, step.answer.number);
+    memory.trail.finish(reach, step);
     match answer {
-        TAKEN | NONE => reach.note("taken half handed in"),
+        TAKEN | DOUBTFUL | NONE => reach.note("taken half handed in"),
         STATUS => reach.note("status half handed in"),
         IGNORED => reach.note("ignored half handed in"),
         _ => reach.note("torn half handed in"),
@@ -281,7 +315,7 @@ fn handed_in(reach: &mut Reach, before: &Panel, answer: u8) {
 
 /// Wraps, and the steps that a slip would get wrong.
 fn steps(reach: &mut Reach, step: &Step, transfer: Transfer) {
-    if step.answer.number != TAKEN {
+    if !is_carried_out(step.answer.number) {
         return;
     }
     let (old, new) = (&step.before.sheet, &step.after.sheet);

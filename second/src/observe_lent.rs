@@ -81,6 +81,7 @@ fn refusals(reach: &mut Reach, lent: &Lent, log: &[u8]) {
     reach.note_if(cut && records.is_empty(), "10 with a log cut before any record");
     reach.note_if(log.is_empty(), "10 on an empty log");
     reach.note_if(!records.is_empty(), "10 over records, counts 0");
+    reach.note(if lent.panel.sheet.good { "10 of a panel that is good" } else { "10 of a panel that is not good" });
 }
 
 /// Notes the picture of the panel that a sound run ends with.

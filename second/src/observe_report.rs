@@ -34,6 +34,21 @@ pub fn log(reach: &mut Reach, start: &Panel, log: &[u8]) {
     let held = report.dropped.iter().any(|&record| report.answers[record as usize - 1] == HELD);
     note_if(reach, held, "a held half dropped by a reset has no line");
     runs(reach, &report, &records);
+    doubtful(reach, &report);
+}
+
+/// Doubtful reads, which have a count and no line; a pair's first half is held.
+fn doubtful(reach: &mut Reach, report: &Report) {
+    let mut latest = None;
+    for (number, &answer) in (1..).zip(&report.answers).filter(|(_, &answer)| !matches!(answer, BACK | BAD)) {
+        let is_pair = latest == Some(HELD);
+        latest = Some(answer);
+        if answer == DOUBTFUL {
+            note(reach, if is_pair { "doubtful data-read, pair" } else { "doubtful data-read, whole" });
+            let has_line = report.lines.iter().any(|line| line.record == number + 1 && line.second.is_some());
+            note_if(reach, is_pair && has_line, "a line of a pair right behind a doubtful pair");
+        }
+    }
 }
 
 fn note(reach: &mut Reach, class: &str) {
@@ -195,6 +210,7 @@ fn among(reach: &mut Reach, report: &Report, records: &[&[u8]], run: &Run, m: us
             (TAKEN, Some(Message::Reset { .. })) => "reset",
             (TAKEN, Some(Message::Transfer(Transfer { rs: false, .. }))) => "instruction taken",
             (TAKEN, Some(Message::Transfer(Transfer { rw: true, .. }))) => "data read taken",
+            (DOUBTFUL, _) => "data read doubtful",
             (STATUS, _) => "status read",
             _ if report.dropped.contains(&number) => "a half that a reset drops",
             _ => continue,

@@ -51,7 +51,7 @@ fn note_if(reach: &mut Reach, reached: bool, class: &str) {
 fn screen(reach: &mut Reach, asked: &Asked, sheet: &Sheet) {
     let blink = if asked.dark { "dark" } else { "light" };
     let is_shifted = sheet.shift != 0;
-    let has_cursor = sheet.d && (sheet.c || sheet.b);
+    let has_cursor = has_cursor(sheet);
     if asked.form == Form::Bitmap {
         note(reach, &format!("bitmap, {blink}"));
         let below = has_cursor && picture::cursor(sheet).line == 1;
@@ -168,6 +168,19 @@ fn passed_over(reach: &mut Reach, from: &Panel, moments: &[Moment], shown: &Show
     note_if(reach, shown.panel.half.is_some() && shown.before.is_some(), "between two halves");
     let reset = shown.before.is_some_and(|place| matches!(log::message(records[place]), Some(Message::Reset { .. })));
     note_if(reach, reset, "a reset is the first that is later");
+    doubtful(reach, moments, shown);
+}
+
+/// A doubtful read moves the address, which the cursor shows.
+fn doubtful(reach: &mut Reach, moments: &[Moment], shown: &Shown) {
+    let sheet = &shown.panel.sheet;
+    let stops = shown.before.is_some_and(|place| moments[place].is_doubtful);
+    let class = format!("a doubtful read is the first that is later, width {}", sheet.width.bits());
+    note_if(reach, stops && has_cursor(sheet), &class);
+}
+
+fn has_cursor(sheet: &Sheet) -> bool {
+    sheet.d && (sheet.c || sheet.b)
 }
 
 /// In which block of the log the first later record begins.

@@ -5,7 +5,7 @@ use crate::chip::{Counter, DisplayAddress};
 use crate::chips::LINE;
 use crate::classes::GLAZOMIR;
 use crate::generator::Trial;
-use crate::log;
+use crate::panel::number::{DOUBTFUL, TAKEN};
 use crate::panel::{self, Panel};
 use crate::reach::Reach;
 
@@ -38,9 +38,12 @@ pub fn start(reach: &mut Reach, prefix: &str, trial: &Trial, words: &[String]) -
 /// Notes what one question to `glazomir` reaches.
 pub fn glazomir(reach: &mut Reach, trial: &Trial, words: &[String]) {
     let Some(mut panel) = start(reach, GLAZOMIR, trial, words) else { return };
-    panel::run(&mut panel, &trial.log);
+    let run = panel::run(&mut panel, &trial.log);
     let note_if = |reach: &mut Reach, reached, class: &str| reach.note_if(reached, &format!("{GLAZOMIR}{class}"));
-    note_if(reach, log::records(&trial.log).1, "cut log");
+    note_if(reach, run.cut, "cut log");
+    let [taken, doubtful] = [TAKEN, DOUBTFUL].map(|number| run.counts[panel::count_of(number)]);
+    note_if(reach, doubtful > 0, "doubtful reads");
+    note_if(reach, doubtful > 0 && doubtful != taken, "another count of doubtful than of taken");
     match panel.sheet.counter {
         Counter::Pattern(_) => note_if(reach, true, "pattern address"),
         Counter::Display(DisplayAddress(at)) => {

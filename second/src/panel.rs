@@ -66,16 +66,33 @@ pub mod number {
     pub const CUT: u8 = 8;
     pub const SIZE: u8 = 9;
     pub const UNSOUND: u8 = 10;
+    pub const DOUBTFUL: u8 = 11;
+
+    /// Doubtful counts as taken for clock, busy time, striking and replay.
+    pub fn is_carried_out(number: u8) -> bool {
+        matches!(number, TAKEN | DOUBTFUL)
+    }
 }
 use number::*;
+
+/// The answers that a run counts, in the order of the counts, with their names.
+pub const COUNTED: [(u8, &str); 9] = [
+    (TAKEN, "taken"), (DOUBTFUL, "doubtful"), (HELD, "held"), (STATUS, "status"), (IGNORED, "ignored"), (TORN, "torn"),
+    (BACK, "back"), (BAD, "bad"), (NONE, "none"),
+];
+
+/// Where among the counts an answer's stands.
+pub fn count_of(number: u8) -> usize {
+    COUNTED.iter().position(|&(counted, _)| counted == number).expect("the answer to a record")
+}
 
 /// What a run over a log reports.
 #[derive(Clone, Debug, PartialEq)]
 pub struct Run {
     /// One for each record, none where the run is refused.
     pub answers: Vec<Answer>,
-    /// How often each of the answers 0 to 7 was given.
-    pub counts: [u64; 8],
+    /// How often each of the answers to a record was given, as `COUNTED` has them.
+    pub counts: [u64; COUNTED.len()],
     /// Read off the lengths alone, up to the cut.
     pub records: u64,
     pub cut: bool,
@@ -138,6 +155,11 @@ impl Panel {
         Panel { sheet: Sheet::fresh(chip), times, busy_end: 0, last: 0, half: None }
     }
 
+    /// Whether a fresh panel of its chip and times would be the same.
+    pub fn is_fresh(&self) -> bool {
+        *self == Panel::fresh(self.sheet.chip, self.times)
+    }
+
     pub fn is_sound(&self) -> bool {
         faults(self).is_empty()
     }
@@ -190,9 +212,7 @@ impl Panel {
             return Answer::plain(IGNORED);
         }
         if rw {
-            let byte = self.sheet.byte_at_address();
-            self.read(time);
-            return Answer { number: TAKEN, byte };
+            return self.read(self.sheet.byte_at_address(), time);
         }
         self.write(rs, data, time)
     }
@@ -208,7 +228,11 @@ impl Panel {
             self.half = Some(Half { rs, rw, nibble: Some(data >> 4) });
             return Answer::plain(HELD);
         }
-        let byte = if rs { self.sheet.byte_at_address() } else { self.status_byte(time) };
+        let byte = match rs {
+            false => self.status_byte(time),
+            true if self.sheet.good => self.sheet.byte_at_address(),
+            true => 0,
+        };
         self.half = Some(Half { rs, rw, nibble: Some(byte & 0x0F) });
         Answer { number: HELD, byte: byte & 0xF0 }
     }
@@ -227,8 +251,7 @@ impl Panel {
             return Answer { number: STATUS, byte: nibble << 4 };
         }
         if rw {
-            self.read(time);
-            return Answer { number: TAKEN, byte: nibble << 4 };
+            return self.read(nibble << 4, time);
         }
         self.write(rs, nibble << 4 | data >> 4, time)
     }
@@ -238,9 +261,17 @@ impl Panel {
         busy_bit | self.sheet.counter.number()
     }
 
-    fn read(&mut self, time: u64) {
+    /// A free data read, whole or at its second half. It carries this byte where
+    /// it is good; whether it is goes by the panel as the record comes, whatever
+    /// half waited.
+    fn read(&mut self, byte: u8, time: u64) -> Answer {
+        let answer = match self.sheet.good {
+            true => Answer { number: TAKEN, byte },
+            false => Answer::plain(DOUBTFUL),
+        };
         self.sheet.carry_out(Entry::Read);
         self.busy_end = time + u64::from(self.times.short);
+        answer
     }
 
     /// A free write, whole or joined from two halves.
@@ -266,7 +297,7 @@ pub fn run(panel: &mut Panel, log: &[u8]) -> Run {
     let (records, cut) = log::records(log);
     let mut report = Run {
         answers: Vec::new(),
-        counts: [0; 8],
+        counts: [0; COUNTED.len()],
         records: records.len() as u64,
         cut,
         refused: false,
@@ -278,12 +309,14 @@ pub fn run(panel: &mut Panel, log: &[u8]) -> Run {
     }
     for record in records {
         let answer = panel.answer(record);
-        report.counts[usize::from(answer.number)] += 1;
+        report.counts[count_of(answer.number)] += 1;
         report.answers.push(answer);
     }
     report
 }
 
+#[cfg(test)]
+mod good;
 #[cfg(test)]
 mod tests;
 #[cfg(test)]

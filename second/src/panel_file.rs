@@ -1,10 +1,10 @@
-//! A panel as a file of 101 bytes, so that a run can start from any panel.
+//! A panel as a file of 102 bytes, so that a run can start from any panel.
 
 use crate::chip::{Counter, DisplayAddress, PatternAddress, Sheet, Width};
 use crate::chips::Chip;
 use crate::panel::{Half, Panel, Times};
 
-pub const SIZE: usize = 101;
+pub const SIZE: usize = 102;
 
 /// Reads a panel, sound or not; the error says why the bytes are no panel.
 pub fn read(bytes: &[u8]) -> Result<Panel, &'static str> {
@@ -38,6 +38,7 @@ pub fn read(bytes: &[u8]) -> Result<Panel, &'static str> {
             _ => return Err("width"),
         },
         function: bytes[74],
+        good: bit(101, "good")?,
     };
     let half = read_half(bytes[97], bit(98, "RS of the half")?, bit(99, "R/W of the half")?, bytes[100])?;
     Ok(Panel { sheet, times: read_times(bytes), busy_end: long(bytes, 81), last: long(bytes, 89), half })
@@ -75,7 +76,7 @@ pub fn write(panel: &Panel) -> Vec<u8> {
     bytes.push(sheet.counter.number());
     bytes.push(sheet.shift);
     bytes.extend([sheet.i_d, sheet.s, sheet.d, sheet.c, sheet.b].map(u8::from));
-    bytes.push(if sheet.width == Width::Eight { 8 } else { 4 });
+    bytes.push(sheet.width.bits());
     bytes.push(sheet.function);
     for time in [panel.times.reset, panel.times.long, panel.times.short] {
         bytes.extend(time.to_le_bytes());
@@ -87,6 +88,7 @@ pub fn write(panel: &Panel) -> Vec<u8> {
         Some(Half { rs, rw, nibble: None }) => [1, u8::from(rs), u8::from(rw), 0],
         Some(Half { rs, rw, nibble: Some(nibble) }) => [2, u8::from(rs), u8::from(rw), nibble],
     });
+    bytes.push(u8::from(sheet.good));
     bytes
 }
 
@@ -96,8 +98,9 @@ mod tests {
 
     #[test]
     fn what_is_written_is_read() {
-        for chip in [Chip::ONE_LINE, Chip::TWO_LINES, Chip(0), Chip(255)] {
+        for (chip, good) in [(Chip::ONE_LINE, true), (Chip::TWO_LINES, false), (Chip(0), true), (Chip(255), false)] {
             let mut panel = Panel::fresh(chip, Times::USUAL);
+            panel.sheet.good = good;
             panel.sheet.display = std::array::from_fn(|at| at as u8);
             panel.half = Some(Half { rs: true, rw: false, nibble: Some(255) });
             panel.sheet.counter = Counter::Pattern(PatternAddress(99));
@@ -109,38 +112,44 @@ mod tests {
     /// Every byte another, where it may be: each is read from its own place.
     #[test]
     fn each_byte_has_its_place() {
-        let mut bytes: Vec<u8> = (0..101).collect();
+        let mut bytes: Vec<u8> = (0..102).collect();
         bytes[65..=74].copy_from_slice(&[1, 66, 67, 0, 1, 0, 1, 0, 4, 74]);
-        bytes[97..].copy_from_slice(&[2, 1, 0, 100]);
+        bytes[97..].copy_from_slice(&[2, 1, 0, 100, 1]);
         let panel = read(&bytes).expect("a panel");
         let sheet = &panel.sheet;
         assert_eq!((sheet.chip, sheet.counter, sheet.shift), (Chip(0), Counter::Pattern(PatternAddress(66)), 67));
         assert_eq!((sheet.display[0], sheet.display[15], sheet.display[16], sheet.display[31]), (1, 16, 17, 32));
         assert_eq!((sheet.pattern[0], sheet.pattern[31]), (33, 64));
         assert_eq!((sheet.i_d, sheet.s, sheet.d, sheet.c, sheet.b), (false, true, false, true, false));
-        assert_eq!((sheet.width, sheet.function), (Width::Four, 74));
+        assert_eq!((sheet.width, sheet.function, sheet.good), (Width::Four, 74, true));
         let times = Times { reset: 75 + 256 * 76, long: 77 + 256 * 78, short: 79 + 256 * 80 };
         assert_eq!(panel.times, times);
         assert_eq!(panel.busy_end.to_le_bytes(), [81, 82, 83, 84, 85, 86, 87, 88]);
         assert_eq!(panel.last.to_le_bytes(), [89, 90, 91, 92, 93, 94, 95, 96]);
         assert_eq!(panel.half, Some(Half { rs: true, rw: false, nibble: Some(100) }));
         assert_eq!(write(&panel), bytes);
+        bytes[101] = 0;
+        assert_eq!(read(&bytes).map(|panel| panel.sheet.good), Ok(false));
     }
 
     #[test]
     fn what_is_no_panel() {
         let good = write(&Panel::fresh(Chip::TWO_LINES, Times::USUAL));
         assert!(read(&good).is_ok());
-        for size in [0, 84, 100, 102] {
+        // Without its last byte it would be a panel of before.
+        for size in [0, 84, 100, 101, 103] {
             let mut bytes = good.clone();
             bytes.resize(size, 0);
             assert_eq!(read(&bytes), Err("size of the file"));
         }
-        for place in [65, 68, 69, 70, 71, 72, 98, 99] {
-            let mut bytes = good.clone();
-            bytes[place] = 2;
-            assert!(read(&bytes).is_err(), "byte {place}");
+        for place in [65, 68, 69, 70, 71, 72, 98, 99, 101] {
+            for byte in [2, 255] {
+                let mut bytes = good.clone();
+                bytes[place] = byte;
+                assert!(read(&bytes).is_err(), "byte {place}");
+            }
         }
+        assert_eq!(read(&[&good[..101], &[2]].concat()), Err("good"));
         for (place, byte) in [(73, 5), (97, 3), (98, 1), (99, 1), (100, 1)] {
             let mut bytes = good.clone();
             bytes[place] = byte;

@@ -1,22 +1,20 @@
-//! The two prints: the twelve lines of `glazomir`, and all of `trace`, whichever
+//! The two prints: the thirteen lines of `glazomir`, and all of `trace`, whichever
 //! chip the panel has.
 
 use crate::arguments::Lent;
-use crate::chip::{Counter, Width};
+use crate::chip::Counter;
 use crate::chips::Chip;
 use crate::panel::number::{CUT, UNSOUND};
-use crate::panel::{self, Half, Panel, Run};
+use crate::panel::{self, Half, Panel, Run, COUNTED};
 use crate::picture::{self, Comparison, Painting};
 use std::fmt::Write;
-
-pub const COUNTED: [&str; 8] = ["taken", "held", "status", "ignored", "torn", "back", "bad", "none"];
 
 /// What the mirror program prints for a log that is sent to this panel.
 pub fn glazomir(start: &Panel, log: &[u8]) -> String {
     let mut panel = start.clone();
     let run = panel::run(&mut panel, log);
     let mut print = format!("records {}\n", run.records);
-    for (name, count) in COUNTED.iter().zip(run.counts) {
+    for ((_, name), count) in COUNTED.into_iter().zip(run.counts) {
         line(&mut print, format_args!("{name} {count}"));
     }
     line(&mut print, format_args!("cut {}", u8::from(run.cut)));
@@ -46,6 +44,7 @@ pub fn trace(lent: &Lent, log: &[u8]) -> String {
     sheet(&mut print, &panel);
     line(&mut print, format_args!("busy {} last {}", panel.busy_end, panel.last));
     line(&mut print, format_args!("half {}", half(panel.half)));
+    line(&mut print, format_args!("good {}", u8::from(panel.sheet.good)));
     pictures(&mut print, lent, &panel);
     print
 }
@@ -88,8 +87,7 @@ fn sheet(print: &mut String, panel: &Panel) {
     line(print, format_args!("shift {}", sheet.shift));
     line(print, format_args!("entry {} {}", bit(sheet.i_d), bit(sheet.s)));
     line(print, format_args!("screen {} {} {}", bit(sheet.d), bit(sheet.c), bit(sheet.b)));
-    let width = if sheet.width == Width::Eight { 8 } else { 4 };
-    line(print, format_args!("width {width} function {:X}", sheet.function));
+    line(print, format_args!("width {} function {:X}", sheet.width.bits(), sheet.function));
 }
 
 fn half(half: Option<Half>) -> String {
@@ -159,17 +157,17 @@ mod tests {
     #[test]
     fn a_cut_run_says_so_after_its_records() {
         let log = [log::write_transfer(0, 1, 0x41), vec![12]].concat();
-        let expected = ["0 00", "refused 8", "records 1", "cut 1", "counts 1 0 0 0 0 0 0 0", "sound 1"];
+        let expected = ["0 00", "refused 8", "records 1", "cut 1", "counts 1 0 0 0 0 0 0 0 0", "sound 1"];
         assert_eq!(lines(&usual(), &log), expected);
-        assert_eq!(lines(&usual(), &[12]), ["refused 8", "records 0", "cut 1", "counts 0 0 0 0 0 0 0 0", "sound 1"]);
-        assert_eq!(lines(&usual(), &[]), ["records 0", "cut 0", "counts 0 0 0 0 0 0 0 0", "sound 1"]);
+        assert_eq!(lines(&usual(), &[12]), ["refused 8", "records 0", "cut 1", "counts 0 0 0 0 0 0 0 0 0", "sound 1"]);
+        assert_eq!(lines(&usual(), &[]), ["records 0", "cut 0", "counts 0 0 0 0 0 0 0 0 0", "sound 1"]);
     }
 
     #[test]
     fn a_refused_run_is_not_cut_and_counts_nothing() {
         let log = [log::write_transfer(0, 1, 0x41), log::write_record(9, &[]), vec![12]].concat();
         for (log, records) in [(&log[..], 2), (&log[..18], 2), (&log[..15], 1), (&[12], 0), (&[], 0)] {
-            let expected = ["refused 10", &format!("records {records}"), "cut 0", "counts 0 0 0 0 0 0 0 0", "sound 0"];
+            let expected = ["refused 10", &format!("records {records}"), "cut 0", "counts 0 0 0 0 0 0 0 0 0", "sound 0"];
             assert_eq!(lines(&unsound(), log), expected);
         }
     }
@@ -197,12 +195,34 @@ mod tests {
         ]
         .concat();
         let print = trace(&usual(), &log);
-        for line in
-            ["counter pattern 1E", "width 4 function B", "half 1 0 0 D", "busy 81 last 81", "counts 2 2 0 0 0 0 0 0"]
-        {
+        for line in [
+            "counter pattern 1E", "width 4 function B", "half 1 0 0 D", "busy 81 last 81", "counts 2 0 2 0 0 0 0 0 0",
+            "good 1",
+        ] {
             assert!(print.contains(&format!("\n{line}\n")), "{line}");
         }
         assert!(glazomir(&usual().panel, &log).contains("\npattern 1E\ncodes 20 20"));
+    }
+
+    #[test]
+    fn a_doubtful_read_and_what_it_leaves() {
+        let mut log = log::write_transfer(0, 3, 0);
+        assert_eq!(lines(&usual(), &log)[..3], ["11 00", "records 1", "cut 0"]);
+        assert!(trace(&usual(), &log).contains("\nhalf none\ngood 1\nframe 0 "));
+        assert!(glazomir(&usual().panel, &log).starts_with("records 1\ntaken 0\ndoubtful 1\nheld 0\n"));
+        log.extend(log::write_transfer(40, 1, 0x41));
+        assert!(trace(&usual(), &log).contains("\ncounts 1 1 0 0 0 0 0 0 0\n"));
+        assert!(trace(&usual(), &log).contains("\nhalf none\ngood 0\nframe 0 "));
+    }
+
+    /// Of a panel that is refused, too, what it says is printed.
+    #[test]
+    fn whether_a_refused_panel_is_good() {
+        for (good, line) in [(false, "good 0"), (true, "good 1")] {
+            let mut lent = unsound();
+            lent.panel.sheet.good = good;
+            assert!(trace(&lent, &log::write_transfer(0, 3, 0)).contains(&format!("\nhalf none\n{line}\nframe 0 ")));
+        }
     }
 
     /// A panel of this chip with 41h at its first place, and frames of its size.
@@ -257,7 +277,7 @@ mod tests {
     #[test]
     fn a_refused_run_of_an_unknown_chip() {
         let log = [log::write_transfer(0, 1, 0x41), vec![12]].concat();
-        let expected = ["refused 10", "records 1", "cut 0", "counts 0 0 0 0 0 0 0 0", "sound 0"];
+        let expected = ["refused 10", "records 1", "cut 0", "counts 0 0 0 0 0 0 0 0 0", "sound 0"];
         assert_eq!(lines(&lent_by(36), &log), expected);
     }
 }

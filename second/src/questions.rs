@@ -2,10 +2,12 @@
 //! for the seed, and those of each of the generator's turns.
 
 use crate::cases;
+use crate::chip::Width;
 use crate::chips::Chip;
 use crate::generator::{self, Trial};
 use crate::glass;
 use crate::lend::{self, files, panels, text, Group};
+use crate::panel_file;
 use crate::start::Feed;
 
 #[derive(Clone, Copy, Debug, PartialEq)]
@@ -54,6 +56,7 @@ pub fn fixed(seed: u64) -> Vec<Question> {
     questions.extend(of_the_report(seed));
     questions.extend(of_the_wall(seed));
     questions.extend(panels());
+    questions.extend(reads(seed));
     questions.extend(fresh_panels(seed));
     questions.extend(unreadable(seed));
     questions.extend(help());
@@ -170,20 +173,23 @@ fn of_the_wall(seed: u64) -> Vec<Question> {
         questions.push(ask(glass::long_trial(seed, number + 8), Feed::Whole));
     }
     let mut whole = [glass::example_and_edges(), glass::two_lines_by_time(), glass::refused(seed)].concat();
+    whole.extend(glass::doubtful_reads_by_time());
     whole.extend(Chip::KNOWN.into_iter().flat_map(|chip| glass::shifts(seed, chip)));
     questions.extend(whole.into_iter().map(|trial| ask(trial, Feed::Whole)));
     questions
+}
+
+/// This log, sent to the panel of a file.
+fn handed_in(bytes: Vec<u8>, mut groups: Vec<Group>, log: &[u8]) -> Question {
+    groups.push(files("panel", vec![bytes]));
+    Question { which: Which::Trace, trial: Trial { groups, log: log.to_vec() }, feed: Feed::Whole }
 }
 
 /// Panels where the two chips part, and those of no known chip with frames of
 /// every size, by either way of reading records.
 fn panels() -> Vec<Question> {
     let log = generator::short_night();
-    let ask = |bytes: Vec<u8>, mut groups: Vec<Group>, log: &[u8]| {
-        groups.push(files("panel", vec![bytes]));
-        Question { which: Which::Trace, trial: Trial { groups, log: log.to_vec() }, feed: Feed::Whole }
-    };
-    let parting = panels::where_chips_part().into_iter().map(|bytes| ask(bytes, Vec::new(), &log));
+    let parting = panels::where_chips_part().into_iter().map(|bytes| handed_in(bytes, Vec::new(), &log));
     let sizes = [(80, 80), (160, 160), (80, 160), (0, 200)];
     let unknown = panels::of_unknown_chips().into_iter().enumerate().map(|(number, bytes)| {
         let (one, other) = sizes[number % 4];
@@ -195,9 +201,31 @@ fn panels() -> Vec<Question> {
             _ => Vec::new(),
         };
         let end = [log.len(), 0, 5, 33][number / 2 % 4];
-        ask(bytes, groups, &log[..end])
+        handed_in(bytes, groups, &log[..end])
     });
     parting.chain(unknown).collect()
+}
+
+/// Every code before a read, and panels whose first read shows whether they are
+/// good: its half is torn, it comes after a reset, it is carried out, or it waits.
+fn reads(seed: u64) -> Vec<Question> {
+    let mut questions = Vec::new();
+    for chip in Chip::KNOWN {
+        let [wide, narrow] = [Width::Eight, Width::Four].map(|width| generator::codes_before_reads(seed, chip, width));
+        questions.extend([&wide, &narrow].map(|log| plain(Which::Trace, chip, log.clone())));
+        questions.extend([Which::Glazomir, Which::Report].map(|which| plain(which, chip, narrow.clone())));
+        questions.push(by_records(chip, narrow));
+        questions.push(by_records(chip, wide));
+    }
+    let logs = generator::first_reads();
+    for panel in panels::good_and_not() {
+        let asked = if panel.half.is_some() { &logs[..3] } else { &logs[2..] };
+        for log in asked {
+            let ways = [Vec::new(), vec![text("records")]];
+            questions.extend(ways.map(|groups| handed_in(panel_file::write(&panel), groups, log)));
+        }
+    }
+    questions
 }
 
 /// Words for the fresh panel, taken and refused, for every program.

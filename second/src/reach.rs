@@ -17,6 +17,9 @@ pub struct Reach {
 struct Codes {
     /// Instruction codes, by width and by free or busy.
     sent: [[bool; 256]; 4],
+    /// Instruction codes with a read right behind them, by the width that they
+    /// were sent at and by whether the panel was good before them.
+    read: [[bool; 256]; 4],
     /// Codes that `wall` showed with the display on.
     shown: [bool; 256],
 }
@@ -30,7 +33,7 @@ impl Default for Reach {
 impl Reach {
     pub fn new() -> Reach {
         let classes = wanted().into_iter().map(|class| (class, 0)).collect();
-        let none = Codes { sent: [[false; 256]; 4], shown: [false; 256] };
+        let none = Codes { sent: [[false; 256]; 4], read: [[false; 256]; 4], shown: [false; 256] };
         Reach { classes, chip: Chip::ONE_LINE, codes: [none; 2] }
     }
 
@@ -74,6 +77,12 @@ impl Reach {
         }
     }
 
+    pub fn note_code_read(&mut self, wide: bool, was_good: bool, code: u8) {
+        if let Some(codes) = self.codes() {
+            codes.read[usize::from(wide) * 2 + usize::from(was_good)][usize::from(code)] = true;
+        }
+    }
+
     pub fn note_shown(&mut self, code: u8) {
         if let Some(codes) = self.codes() {
             codes.shown[usize::from(code)] = true;
@@ -85,8 +94,9 @@ impl Reach {
             *self.classes.get_mut(class).expect("the same list") += count;
         }
         for (mine, theirs) in self.codes.iter_mut().zip(&other.codes) {
-            let seen = mine.sent.iter_mut().flatten().chain(&mut mine.shown);
-            for (mine, theirs) in seen.zip(theirs.sent.iter().flatten().chain(&theirs.shown)) {
+            let seen = mine.sent.iter_mut().chain(&mut mine.read).flatten().chain(&mut mine.shown);
+            let theirs = theirs.sent.iter().chain(&theirs.read).flatten().chain(&theirs.shown);
+            for (mine, theirs) in seen.zip(theirs) {
                 *mine |= theirs;
             }
         }
@@ -97,10 +107,11 @@ impl Reach {
         let mut table: Vec<(String, u64)> =
             wanted().into_iter().map(|class| (class.clone(), self.classes[&class])).collect();
         for (chip, codes) in Chip::KNOWN.into_iter().zip(&self.codes) {
-            for (at, seen) in codes.sent.iter().enumerate() {
+            for (at, (sent, read)) in codes.sent.iter().zip(&codes.read).enumerate() {
                 let width = if at & 2 != 0 { 8 } else { 4 };
-                let state = if at & 1 != 0 { "free" } else { "busy" };
-                table.push((of(&format!("all 256 codes, width {width}, {state}"), chip), all(seen)));
+                let (state, was) = if at & 1 != 0 { ("free", "good") } else { ("busy", "not good") };
+                table.push((of(&format!("all 256 codes, width {width}, {state}"), chip), all(sent)));
+                table.push((of(&format!("all 256 codes before a read, width {width}, {was}"), chip), all(read)));
             }
             table.push((of(&format!("{WALL}all 256 codes"), chip), all(&codes.shown)));
         }

@@ -7,9 +7,11 @@ mod faults;
 mod glass;
 mod nights;
 mod phrases;
+mod reads;
 
 pub use glass::{send_glass, Scene};
 pub use nights::send_nights;
+pub use reads::send_codes_before_reads;
 
 use crate::chip::Width;
 use crate::log::{self, TIME_LIMIT};
@@ -44,8 +46,7 @@ pub fn send_log(random: &mut Random, panel: Panel, target: usize) -> Vec<u8> {
         stubborn: random.chance(15),
     };
     let leaps = random.chance(15);
-    let believed = panel.sheet.width;
-    let mut sender = Sender { random, panel, believed, habits, log: Vec::new(), sent: 0, leaps };
+    let mut sender = Sender { leaps, ..Sender::new(random, panel, habits) };
     if sender.random.chance(70) {
         sender.start_up();
     }
@@ -65,6 +66,11 @@ pub fn send_log(random: &mut Random, panel: Panel, target: usize) -> Vec<u8> {
 }
 
 impl Sender<'_> {
+    fn new(random: &mut Random, panel: Panel, habits: Habits) -> Sender<'_> {
+        let believed = panel.sheet.width;
+        Sender { random, panel, believed, habits, log: Vec::new(), sent: 0, leaps: false }
+    }
+
     fn reset(&mut self) {
         let time = self.time();
         self.emit(log::write_reset(time));

@@ -213,6 +213,21 @@ mod tests {
         }
     }
 
+    /// The cursor, which a doubtful read moves, is still where it was.
+    #[test]
+    fn a_doubtful_read_ends_it_as_a_taken_one_does() {
+        let wide = log::write_transfers(&[(0, 0, 0x0E), (100, 3, 0), (200, 3, 0)]);
+        let narrow = log::write_transfers(&[(0, 0, 0x0E), (40, 0, 0x20), (100, 3, 0), (101, 3, 0), (200, 3, 0)]);
+        for (log, at, before, cursor) in [
+            (&wide, 99, Some(1), 0), (&wide, 100, Some(2), 1), (&narrow, 99, Some(2), 0), (&narrow, 100, Some(3), 0),
+            (&narrow, 101, Some(4), 1), (&narrow, 200, None, 1),
+        ] {
+            let shown = shown(&fresh(), log, Some(at));
+            assert_eq!(shown.before, before, "at {at}");
+            assert!(lines(&shown.panel.sheet).ends_with(&format!("cursor {cursor}\n")), "at {at}");
+        }
+    }
+
     #[test]
     fn a_cut_ends_the_log() {
         let cut = [data(100, b'a'), vec![1, 0], data(200, b'b')].concat();

@@ -1,6 +1,6 @@
 -- The two addresses and their memories (document 01, "The panel"), the display address over the places that the chip has.
 use Prim.Native.Nat.{ℕ, _%_}
-use mathlib.Core.Bool.{Bool}
+use mathlib.Core.Bool.{Bool, true, false}
 use mathlib.Core.List.{List}
 use lib.ListN.{getD, set}
 use Rattle.laws.specs.Ring.{moved}
@@ -28,6 +28,11 @@ movedPattern up p = pattern (moved patternSize up (p .0))
 abbrev pub movedAddress : ℕ → Bool → Address → Address
 movedAddress chip up (Display d) = Display (movedDisplay chip up d)
 movedAddress chip up (Pattern p) = Pattern (movedPattern up p)
+
+-- whether the address points into display memory
+abbrev pub inDisplay : Address → Bool
+inDisplay (Display d) = true
+inDisplay (Pattern p) = false
 
 -- the byte at a display address
 abbrev pub readDisplay : ℕ → DisplayAddress → List ℕ → ℕ

@@ -15,7 +15,8 @@ use Rattle.chip.specs.declared.sheet.Sheet.{Sheet}
 abbrev pub sheetOf : Registers → List ℕ → List ℕ → Sheet
 sheetOf r d p = record { registers = r; display = d; pattern = p }
 
--- fresh, of a chip: display memory all 20h, pattern memory all 0, address 0 in display memory, shift 0, I/D = 1, S = D = C = B = 0, width 8, Function Set bits 0
+-- fresh, of a chip: display memory all 20h, pattern memory all 0, address 0 in display memory, shift 0, I/D = 1, S = D = C = B = 0, width 8, Function Set bits 0;
+-- the next read is not good (document 02, wish 2)
 abbrev pub freshRegisters : ℕ → Registers
 freshRegisters chip =
     record {
@@ -29,6 +30,7 @@ freshRegisters chip =
       blink = false;
       eight = true;
       function = 0;
+      good = false;
     }
 
 abbrev pub freshSheet : ℕ → Sheet
@@ -70,16 +72,19 @@ withPattern p s = sheetOf (s .registers) (s .display) p
 
 -- registers with what is set together set anew
 abbrev pub withAddress : Address → Registers → Registers
-withAddress a r = record { chip = r .chip; address = a; shift = r .shift; up = r .up; follow = r .follow; on = r .on; cursor = r .cursor; blink = r .blink; eight = r .eight; function = r .function }
+withAddress a r = record { chip = r .chip; address = a; shift = r .shift; up = r .up; follow = r .follow; on = r .on; cursor = r .cursor; blink = r .blink; eight = r .eight; function = r .function; good = r .good }
 
 abbrev pub withShift : ℕ → Registers → Registers
-withShift n r = record { chip = r .chip; address = r .address; shift = n; up = r .up; follow = r .follow; on = r .on; cursor = r .cursor; blink = r .blink; eight = r .eight; function = r .function }
+withShift n r = record { chip = r .chip; address = r .address; shift = n; up = r .up; follow = r .follow; on = r .on; cursor = r .cursor; blink = r .blink; eight = r .eight; function = r .function; good = r .good }
 
 abbrev pub withEntry : Bool → Bool → Registers → Registers
-withEntry i s r = record { chip = r .chip; address = r .address; shift = r .shift; up = i; follow = s; on = r .on; cursor = r .cursor; blink = r .blink; eight = r .eight; function = r .function }
+withEntry i s r = record { chip = r .chip; address = r .address; shift = r .shift; up = i; follow = s; on = r .on; cursor = r .cursor; blink = r .blink; eight = r .eight; function = r .function; good = r .good }
 
 abbrev pub withScreen : Bool → Bool → Bool → Registers → Registers
-withScreen d c b r = record { chip = r .chip; address = r .address; shift = r .shift; up = r .up; follow = r .follow; on = d; cursor = c; blink = b; eight = r .eight; function = r .function }
+withScreen d c b r = record { chip = r .chip; address = r .address; shift = r .shift; up = r .up; follow = r .follow; on = d; cursor = c; blink = b; eight = r .eight; function = r .function; good = r .good }
 
 abbrev pub withFunction : Bool → ℕ → Registers → Registers
-withFunction width bits r = record { chip = r .chip; address = r .address; shift = r .shift; up = r .up; follow = r .follow; on = r .on; cursor = r .cursor; blink = r .blink; eight = width; function = bits }
+withFunction width bits r = record { chip = r .chip; address = r .address; shift = r .shift; up = r .up; follow = r .follow; on = r .on; cursor = r .cursor; blink = r .blink; eight = width; function = bits; good = r .good }
+
+abbrev pub withGood : Bool → Registers → Registers
+withGood b r = record { chip = r .chip; address = r .address; shift = r .shift; up = r .up; follow = r .follow; on = r .on; cursor = r .cursor; blink = r .blink; eight = r .eight; function = r .function; good = b }

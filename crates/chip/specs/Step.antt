@@ -1,12 +1,12 @@
--- What each step does to the sheet (document 01, "Steps").
+-- What each step does to the sheet (document 01, "Steps"), and whether a read right after it is good (document 02, wish 2).
 use Prim.Native.Nat.{ℕ}
 use mathlib.Core.Bool.{Bool, true, false}
 use lib.ListN.{replicate}
 use Rattle.laws.specs.Pick.{pick}
 use Rattle.laws.specs.Ring.{moved}
 use Rattle.chip.specs.Sizes.{positions, displaySize, space}
-use Rattle.chip.specs.Address.{display, movedAddress, writtenDisplay, writtenPattern}
-use Rattle.chip.specs.Sheet.{onRegisters, withDisplay, withPattern, withAddress, withShift, withEntry, withScreen, withFunction}
+use Rattle.chip.specs.Address.{display, movedAddress, inDisplay, writtenDisplay, writtenPattern}
+use Rattle.chip.specs.Sheet.{onRegisters, withDisplay, withPattern, withAddress, withShift, withEntry, withScreen, withFunction, withGood}
 use Rattle.chip.specs.Instruction.{decoded}
 use Rattle.chip.specs.declared.address.Address.{Address}
 use Rattle.chip.specs.declared.address.Address.the-variants.{Display, Pattern}
@@ -46,17 +46,22 @@ functionSet eight bits s = onRegisters (withFunction eight bits) s
 abbrev pub addressSet : Address → Sheet → Sheet
 addressSet a s = onRegisters (withAddress a) s
 
--- an instruction carried out
+-- whether the next read is good
+abbrev pub nextGood : Bool → Sheet → Sheet
+nextGood good s = onRegisters (withGood good) s
+
+-- an instruction carried out. The next read is good after an address set and after a cursor shift in display memory only; a display shift
+-- changes nothing about it; every other instruction makes it not good
 abbrev pub acted : Instruction → Sheet → Sheet
 acted Nothing s = s
-acted Clear s = cleared s
-acted Home s = homed s
-acted (Entry up follow) s = entered up follow s
-acted (Screen on cursor blink) s = screenSet on cursor blink s
-acted (Move up) s = stepped up s
+acted Clear s = nextGood false (cleared s)
+acted Home s = nextGood false (homed s)
+acted (Entry up follow) s = nextGood false (entered up follow s)
+acted (Screen on cursor blink) s = nextGood false (screenSet on cursor blink s)
+acted (Move up) s = nextGood (inDisplay (s .registers .address)) (stepped up s)
 acted (Shift left) s = shifted left s
-acted (Function eight bits) s = functionSet eight bits s
-acted (Set a) s = addressSet a s
+acted (Function eight bits) s = nextGood false (functionSet eight bits s)
+acted (Set a) s = nextGood true (addressSet a s)
 
 -- a code carried out
 abbrev pub obeyed : ℕ → Sheet → Sheet
@@ -76,13 +81,13 @@ abbrev pub shiftsAt : Address → Bool → Bool
 shiftsAt (Display a) follow = follow
 shiftsAt (Pattern a) follow = false
 
--- data write: stores at the address, then the address moves by I/D, then the shift
+-- data write: stores at the address, then the address moves by I/D, and the next read is not good; then the shift
 abbrev pub writtenAt : Address → ℕ → Sheet → Sheet
-writtenAt a byte s = followed (shiftsAt a (s .registers .follow)) (stepped (s .registers .up) (storedAt a byte s))
+writtenAt a byte s = followed (shiftsAt a (s .registers .follow)) (nextGood false (stepped (s .registers .up) (storedAt a byte s)))
 
 abbrev pub written : ℕ → Sheet → Sheet
 written byte s = writtenAt (s .registers .address) byte s
 
--- data read: the address moves; no shift
+-- data read, good or not: the address moves, and the next read is good; no shift
 abbrev pub passed : Sheet → Sheet
-passed s = followed false (stepped (s .registers .up) s)
+passed s = followed false (nextGood true (stepped (s .registers .up) s))

@@ -3,7 +3,7 @@
 ghost use mathlib.Core.Path.{_≡_};
 ghost use Prim.Native.Nat.{_<_, _≤_};
 ghost use Rattle.laws.specs.Ring.{moved};
-ghost use Rattle.chip.specs.Address.{movedDisplay, movedPattern, movedAddress, readDisplay, writtenDisplay, readPattern, writtenPattern, addressNumber};
+ghost use Rattle.chip.specs.Address.{movedDisplay, movedPattern, movedAddress, inDisplay, readDisplay, writtenDisplay, readPattern, writtenPattern, addressNumber};
 use crate::sizes::DISPLAY_SIZE;
 use crate::sizes::PATTERN_SIZE;
 use crate::sizes::ROW_END;
@@ -86,6 +86,16 @@ impl Address {
         match self {
             Address::Display(d) => (d.0 as usize % places(chip)) as u8,
             Address::Pattern(p) => (p.0 as usize % PATTERN_SIZE) as u8,
+        }
+    }
+
+    // Whether it points into display memory.
+    pub fn in_display(self) -> bool
+        ensures { λ r. ⌜ r ≡ inDisplay self ⌝ }
+    {
+        match self {
+            Address::Display(_) => true,
+            Address::Pattern(_) => false,
         }
     }
 

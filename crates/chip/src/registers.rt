@@ -2,7 +2,7 @@
 // copied; together with the memories as they then stand, the answer is the meaning's step of the whole sheet.
 ghost use mathlib.Core.Path.{_≡_};
 ghost use Rattle.chip.specs.Sheet.{Starts, Steps, StepsDisplay, StepsBoth, freshSheet, readHere};
-ghost use Rattle.chip.specs.Step.{cleared, homed, entered, screenSet, stepped, shifted, functionSet, addressSet, followed, written, passed, acted, obeyed};
+ghost use Rattle.chip.specs.Step.{cleared, homed, entered, screenSet, stepped, shifted, functionSet, addressSet, nextGood, followed, written, passed, acted, obeyed};
 use crate::address::Address;
 use crate::address::DisplayAddress;
 use crate::address::step_round;
@@ -31,6 +31,8 @@ pub struct Registers {
     pub eight: bool,
     // The low four Function Set bits.
     pub function: u8,
+    // Whether the next read is good.
+    pub good: bool,
 }
 
 impl Registers {
@@ -55,6 +57,7 @@ impl Registers {
             blink: false,
             eight: true,
             function: 0,
+            good: false,
         }
     }
 
@@ -135,19 +138,31 @@ impl Registers {
         Registers { address, ..self }
     }
 
+    // A read right after this is good, or it is not.
+    pub fn next_good(self, good: bool) -> Registers
+        ensures { λ r. ⌜ Steps (nextGood good) self r ⌝ }
+    {
+        Registers { good, ..self }
+    }
+
     pub fn act(self, i: Instruction, display: &mut [u8; DISPLAY_SIZE]) -> Registers
         ensures { λ r. ⌜ StepsDisplay (acted i) self (now (display .entry)) r (now (display .exit)) ⌝ }
     {
+        let here = self.address;
         match i {
             Instruction::Nothing => self,
-            Instruction::Clear => self.clear(display),
-            Instruction::Home => self.home(),
-            Instruction::Entry { up, follow } => self.entry_mode(up, follow),
-            Instruction::Screen { on, cursor, blink } => self.screen(on, cursor, blink),
-            Instruction::Move { up } => self.step(up),
+            Instruction::Clear => self.clear(display).next_good(false),
+            Instruction::Home => self.home().next_good(false),
+            Instruction::Entry { up, follow } => self.entry_mode(up, follow).next_good(false),
+            Instruction::Screen { on, cursor, blink } => {
+                self.screen(on, cursor, blink).next_good(false)
+            }
+            Instruction::Move { up } => self.step(up).next_good(here.in_display()),
             Instruction::Shift { left } => self.shift_by_one(left),
-            Instruction::Function { eight, bits } => self.function_set(eight, bits),
-            Instruction::Set(a) => self.set(a),
+            Instruction::Function { eight, bits } => {
+                self.function_set(eight, bits).next_good(false)
+            }
+            Instruction::Set(a) => self.set(a).next_good(true),
         }
     }
 
@@ -180,11 +195,11 @@ impl Registers {
         }
     }
 
-    // A data read moves the address, and never shifts.
+    // A data read moves the address, good or not, and never shifts.
     pub fn read(self) -> Registers
         ensures { λ r. ⌜ Steps passed self r ⌝ }
     {
-        self.step(self.up).followed(false)
+        self.step(self.up).next_good(true).followed(false)
     }
 
     // A data write shifts with S = 1, and in display memory alone.
@@ -197,7 +212,7 @@ impl Registers {
         ensures { λ r. ⌜ StepsBoth (written byte) self (now (display .entry)) (now (pattern .entry)) r (now (display .exit)) (now (pattern .exit)) ⌝ }
     {
         let a = self.address;
-        let moved = self.step(self.up);
+        let moved = self.step(self.up).next_good(false);
         match a {
             Address::Display(d) => {
                 d.write(self.chip, byte, display);

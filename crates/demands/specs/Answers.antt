@@ -4,7 +4,7 @@ use mathlib.Core.Path.{_≡_}
 use mathlib.Core.List.{List, [], _∷_}
 use lib.ListN.{replicate}
 use Rattle.log.specs.Frames.{frames}
-use Rattle.mirror.specs.Answer.{numberOf}
+use Rattle.mirror.specs.Answer.{numberOf, countPlaces}
 use Rattle.mirror.specs.Run.{tallied}
 use Rattle.mirror.specs.Stream.{runOf}
 use Rattle.mirror.specs.declared.panel.Panel.{Panel}
@@ -32,4 +32,4 @@ numbers (a ∷ rest) = numberOf (a .answer .answer) ∷ numbers rest
 -- THE ANSWERS OF A RUN: its panel and its counts are theirs
 pub record OfRun (m : Mirror) (p : Panel) (log : List ℕ) : Type 0 where
   pub panel : runOf p log .panel ≡ panelBy m p log
-  pub counts : runOf p log .counts ≡ countsOf (replicate 8 0) (answersBy m p log)
+  pub counts : runOf p log .counts ≡ countsOf (replicate countPlaces 0) (answersBy m p log)

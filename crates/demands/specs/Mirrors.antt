@@ -5,7 +5,7 @@ use mathlib.Core.List.{List}
 use Rattle.mirror.specs.Table.{recordOf}
 use Rattle.mirror.specs.Words.{holding}
 use Rattle.mirror.specs.declared.answer.Answer.{Answer}
-use Rattle.mirror.specs.declared.answer.Answer.the-variants.{Taken, Held, Status, Ignored, Torn, Back, Bad, Nothing, Cut, Unsound}
+use Rattle.mirror.specs.declared.answer.Answer.the-variants.{Taken, Doubtful, Held, Status, Ignored, Torn, Back, Bad, Nothing, Cut, Unsound}
 use Rattle.mirror.specs.declared.half.Half.the-variants.{Empty}
 use Rattle.mirror.specs.declared.panel.Panel.{Panel}
 use Rattle.mirror.specs.declared.record.Recorded.{Recorded}
@@ -27,10 +27,11 @@ outOf r = record { state = r .panel; answer = record { answer = r .answer; byte 
 abbrev pub ours : Mirror
 ours p bytes = outOf (recordOf p bytes)
 
--- what striking does by an answer: taken stays, and its first half with it; held waits; back and bad go, and a half that waits goes on
+-- what striking does by an answer: taken stays, and its first half with it, and so does doubtful, which counts as taken; held waits; back and bad go, and a half that waits goes on
 -- waiting; the rest go, and the first half with them. No record of a log is answered cut or unsound
 abbrev pub sortFor : Answer → Sort
 sortFor Taken = sorted stays keeps
+sortFor Doubtful = sorted stays keeps
 sortFor Held = sorted waits leaves
 sortFor Status = sorted goes strikes
 sortFor Ignored = sorted goes strikes

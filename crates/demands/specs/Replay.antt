@@ -1,10 +1,11 @@
--- Demand 3, first half: the entries answered taken, carried out on the sheet's machine, end with the sheet that the mirror ends with.
+-- Demand 3, first half: the entries answered taken, or doubtful, which counts as taken, carried out on the sheet's machine, end with the sheet that
+-- the mirror ends with, whether the next read is good among it.
 -- What is carried out is read off the log and its answers alone.
 use Prim.Native.Nat.{ℕ, _+_, _*_, _%_, _/_}
 use mathlib.Core.Path.{_≡_}
-use mathlib.Core.Bool.{Bool, _||_}
+use mathlib.Core.Bool.{Bool}
 use mathlib.Core.List.{List, [], _∷_, _++_}
-use lib.Dec.{ltb, eqb}
+use lib.Dec.{eqb}
 use Rattle.laws.specs.Pick.{pick}
 use Rattle.log.specs.Frame.{frameOf}
 use Rattle.log.specs.declared.frame.Frame.{Frame}
@@ -12,9 +13,9 @@ use Rattle.log.specs.declared.frame.Frame.the-variants as frame
 use Rattle.chip.specs.Sheet.{freshSheet}
 use Rattle.chip.specs.Step.{obeyed, written, passed}
 use Rattle.chip.specs.declared.sheet.Sheet.{Sheet}
-use Rattle.mirror.specs.Answer.{numberOf}
+use Rattle.mirror.specs.Answer.{numberOf, carriedOut}
 use Rattle.mirror.specs.Panel.{freshPanel}
-use Rattle.mirror.specs.Answers.{Typed}
+use Rattle.mirror.specs.Answers.{clocked, Typed}
 use Rattle.mirror.specs.declared.answer.Answer.{Answer}
 use Rattle.striking.specs.Machine.{Answered}
 use Rattle.demands.specs.Mirrors.{Response, Mirror}
@@ -65,17 +66,17 @@ busOf (frame.Bad size) = 0
 busOf (frame.Reset time) = 0
 busOf (frame.Transfer time rs reads bus) = bus
 
--- an entry is carried out where the answer is 0, taken
+-- an entry is carried out where the answer says so: 0, taken, or 11, doubtful
 abbrev pub entriesBy : Answer → ReplayHalf → Frame → List Entry
-entriesBy answer first f = pick (eqb (numberOf answer) 0) (entryAt first f) []
+entriesBy answer first f = pick (carriedOut (numberOf answer)) (entryAt first f) []
 
--- answer 1 holds a first half; 0, 2, 3, 4 and 7 leave none; all others change nothing
+-- answer 1 holds a first half; every other that sets the last time leaves none; the rest change nothing
 abbrev pub firstAfter : Answer → ReplayHalf → Frame → ReplayHalf
 firstAfter answer first f =
     let n = numberOf answer in
-    pick (eqb n 1) (held (busOf f)) (pick (ltb n 5 || eqb n 7) none first)
+    pick (eqb n 1) (held (busOf f)) (pick (clocked n) none first)
 
--- the entries answered taken, once each, in order, a pair of halves as one
+-- the entries answered taken or doubtful, once each, in order, a pair of halves as one
 abbrev pub takenFrom : ReplayHalf → List (Answered (List ℕ) Response) → List Entry
 takenFrom first [] = []
 takenFrom first (a ∷ rest) =

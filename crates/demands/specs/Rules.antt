@@ -9,7 +9,7 @@ use Rattle.laws.specs.Pick.{pick}
 use Rattle.log.specs.Frame.{frameOf}
 use Rattle.log.specs.Frames.{recordsOf}
 use Rattle.log.specs.declared.frame.Frame.the-variants.{Transfer}
-use Rattle.mirror.specs.Answer.{numberOf}
+use Rattle.mirror.specs.Answer.{numberOf, countPlaces, placeOf}
 use Rattle.mirror.specs.Panel.{soundPanel}
 use Rattle.mirror.specs.Words.{joinedOf, free}
 use Rattle.mirror.specs.Answers.{Proper}
@@ -68,15 +68,15 @@ abbrev pub occurrences : ℕ → List ℕ → ℕ
 occurrences n [] = 0
 occurrences n (x ∷ rest) = pick (eqb x n) 1 0 + occurrences n rest
 
--- COUNTS: each of the eight counts is the number of records that were answered so, as far as a count goes
+-- COUNTS: each of the nine counts, at its answer's place, is the number of records that were answered so, as far as a count goes
 abbrev pub Counts : Counter → Type 0
 Counts run =
     (p : Panel) (log : List ℕ) → Proper p log →
-    (n : ℕ) → n < 8 → getD (run p log .counts) n 0 ≡ capped (occurrences n (numbers (answersBy ours p log)))
+    (n : ℕ) → placeOf n < countPlaces → getD (run p log .counts) (placeOf n) 0 ≡ capped (occurrences n (numbers (answersBy ours p log)))
 
--- the eight counts together
+-- the nine counts together
 abbrev pub total : List ℕ → ℕ
-total c = getD c 0 0 + getD c 1 0 + getD c 2 0 + getD c 3 0 + getD c 4 0 + getD c 5 0 + getD c 6 0 + getD c 7 0
+total c = getD c 0 0 + getD c 1 0 + getD c 2 0 + getD c 3 0 + getD c 4 0 + getD c 5 0 + getD c 6 0 + getD c 7 0 + getD c 8 0
 
 -- a log in memory has fewer than 2^64 bytes
 abbrev pub InMemory : List ℕ → Type 0
@@ -86,6 +86,6 @@ InMemory log = length log < 2 ^ 64
 abbrev pub CountsRecords : Counter → Type 0
 CountsRecords run = (p : Panel) (log : List ℕ) → InMemory log → run p log .records ≡ recordsOf log
 
--- COUNTS: unless the run is refused, the eight add up to it
+-- COUNTS: unless the run is refused, the nine add up to it
 abbrev pub AddsUp : Counter → Type 0
 AddsUp run = (p : Panel) (log : List ℕ) → soundPanel p ≡ true → InMemory log → total (run p log .counts) ≡ recordsOf log

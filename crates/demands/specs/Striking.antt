@@ -1,13 +1,13 @@
 -- Demand 3, second half, on the bytes of a log: without its struck records it is answered as before.
 -- Struck are the records answered 2 to 7, and the first halves of pairs answered so; the unreadable tail stays out of it.
-use Prim.Native.Nat.{ℕ, _≤_}
+use Prim.Native.Nat.{ℕ}
 use mathlib.Core.Path.{_≡_}
-use mathlib.Core.Bool.{false}
+use mathlib.Core.Bool.{true, false, _||_}
 use mathlib.Core.List.{List, [], _∷_, Sublistᴰ}
 use lib.Dec.{eqb}
 use Rattle.laws.specs.Pick.{pick}
 use Rattle.log.specs.Frames.{frames, tail, joined}
-use Rattle.mirror.specs.Answer.{numberOf}
+use Rattle.mirror.specs.Answer.{numberOf, carriedOut}
 use Rattle.mirror.specs.Panel.{freshPanel}
 use Rattle.mirror.specs.Answers.{Typed}
 use Rattle.mirror.specs.declared.panel.Panel.{Panel}
@@ -25,15 +25,15 @@ stayed m p log = unstruck (machineOf m .sort) (answersBy m p log)
 abbrev pub struckLog : Mirror → Panel → List ℕ → List ℕ
 struckLog m p log = joined (events (stayed m p log))
 
--- the records answered taken
+-- the records answered taken, or doubtful, which counts as taken
 abbrev pub takens : List (Answered (List ℕ) Response) → List (Answered (List ℕ) Response)
 takens [] = []
-takens (a ∷ rest) = pick (eqb (numberOf (a .answer .answer)) 0) (a ∷ takens rest) (takens rest)
+takens (a ∷ rest) = pick (carriedOut (numberOf (a .answer .answer))) (a ∷ takens rest) (takens rest)
 
--- all are answered taken or held
+-- all are answered so, or held
 abbrev pub TakenOrHeld : List (Answered (List ℕ) Response) → Type 0
 TakenOrHeld [] = Unit {0}
-TakenOrHeld (a ∷ rest) = (numberOf (a .answer .answer) ≤ 1) × TakenOrHeld rest
+TakenOrHeld (a ∷ rest) = ((carriedOut (numberOf (a .answer .answer)) || eqb (numberOf (a .answer .answer)) 1) ≡ true) × TakenOrHeld rest
 
 -- What is claimed of striking a log that is answered from p on
 pub record StruckFrom (m : Mirror) (p : Panel) (log : List ℕ) : Type 0 where

@@ -6,7 +6,7 @@ use mathlib.Core.List.{List}
 use mathlib.Core.Option.{none, some}
 use lib.ListN.{replicate}
 use Rattle.chip.specs.Sizes.{isKnown}
-use Rattle.mirror.specs.Answer.{paper}
+use Rattle.mirror.specs.Answer.{countPlaces, paper}
 use Rattle.mirror.specs.Table.{recordOf}
 use Rattle.mirror.specs.Stream.{startOf, feedOf, nextOf, endOf, runOf}
 use Rattle.mirror.specs.Promise.{summed}
@@ -21,7 +21,7 @@ pub record RefusedAlways (p : Panel) : Type 0 where
   pub unused : (log : List ℕ) → recordOf p log .used ≡ 0
   pub kept : (log : List ℕ) → recordOf p log .panel ≡ p
   -- by `run`, and by `feed` and `end`: all counts 0 and not cut
-  pub runs : (log : List ℕ) → summed (runOf p log) ≡ record { number = some 10; counts = replicate 8 0; cut = false }
+  pub runs : (log : List ℕ) → summed (runOf p log) ≡ record { number = some 10; counts = replicate countPlaces 0; cut = false }
   pub left : (log : List ℕ) → runOf p log .panel ≡ p
   pub fed : (log : List ℕ) → endOf (feedOf (startOf p) log) ≡ runOf p log
   -- by `next`: nothing is taken

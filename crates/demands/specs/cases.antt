@@ -3,6 +3,7 @@ pub mod Naive
 pub mod Cases
 pub mod RowCases
 pub mod StepCases
+pub mod GoodCases
 pub mod HalfCases
 pub mod AnswerCases
 pub mod RunCases

@@ -49,13 +49,14 @@ fn print_counts(run: Run) {
     let counts = run.counts;
     line(b"records ", run.records);
     line(b"taken ", counts[0]);
-    line(b"held ", counts[1]);
-    line(b"status ", counts[2]);
-    line(b"ignored ", counts[3]);
-    line(b"torn ", counts[4]);
-    line(b"back ", counts[5]);
-    line(b"bad ", counts[6]);
-    line(b"none ", counts[7]);
+    line(b"doubtful ", counts[1]);
+    line(b"held ", counts[2]);
+    line(b"status ", counts[3]);
+    line(b"ignored ", counts[4]);
+    line(b"torn ", counts[5]);
+    line(b"back ", counts[6]);
+    line(b"bad ", counts[7]);
+    line(b"none ", counts[8]);
     line(b"cut ", run.cut as u64);
 }
 
@@ -76,14 +77,15 @@ fn print_codes(chip: u8, display: [u8; DISPLAY_SIZE]) {
     show(b"\n");
 }
 
-// What was asked for; its help explains the twelve lines.
+// What was asked for; its help explains the thirteen lines.
 fn arguments() -> Given {
     asked(
         b"glazomir",
         b"chip NAME, times R L S",
-        b"glazomir < LOG carries a log of bus transfers out on a fresh panel, and prints twelve lines:\n\
+        b"glazomir < LOG carries a log of bus transfers out on a fresh panel, and prints thirteen lines:\n\
         records N   how many records the log has, up to a cut\n\
         taken N     carried out: instructions, data transfers and resets\n\
+        doubtful N  data reads carried out that no address set, cursor shift or read had made good\n\
         held N      first halves of a pair that were kept\n\
         status N    status reads that were completed\n\
         ignored N   transfers that came while the chip was busy\n\

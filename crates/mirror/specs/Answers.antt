@@ -6,7 +6,7 @@ use mathlib.Core.List.{List, [], _∷_}
 use lib.ListN.{getD}
 use lib.Dec.{leb, eqb}
 use Rattle.chip.specs.Sizes.{isKnown}
-use Rattle.mirror.specs.Answer.{numberOf}
+use Rattle.mirror.specs.Answer.{numberOf, carriedOut}
 use Rattle.mirror.specs.Panel.{soundPanel}
 use Rattle.mirror.specs.Table.{recordOf}
 use Rattle.mirror.specs.declared.panel.Panel.{Panel}
@@ -24,9 +24,9 @@ abbrev pub panelAfterAll : Panel → List (List ℕ) → Panel
 panelAfterAll p [] = p
 panelAfterAll p (f ∷ fs) = panelAfterAll (panelAfter p f) fs
 
--- answers 0 to 4 and 7, which set the last time
+-- answers 0 to 4 and 7, and doubtful as taken, which set the last time
 abbrev pub clocked : ℕ → Bool
-clocked n = leb n 4 || eqb n 7
+clocked n = carriedOut n || leb n 4 || eqb n 7
 
 -- records of which none does: they are answered 5 or 6 (or 8 or 10), and may stand between two halves
 abbrev pub AllUnclocked : Panel → List (List ℕ) → Type 0

@@ -9,6 +9,7 @@ use Rattle.laws.specs.Pick.{pick}
 use Rattle.log.specs.Frame.{timeOf, dataOf, rsOf, rwOf, isTransfer, isReset, cutAt, badAt}
 use Rattle.log.specs.Frames.{frames}
 use Rattle.chip.specs.Instruction.{isSet}
+use Rattle.mirror.specs.Answer.{carriedOut}
 use Rattle.mirror.specs.Panel.{freshPanel}
 use Rattle.mirror.specs.Table.{isStatus}
 use Rattle.mirror.specs.Answers.{answerTo, panelAfter, clocked, Typed}
@@ -51,7 +52,7 @@ widthBy byte eight = pick (ltb byte 0x20) eight (pick (ltb byte 0x40) (isSet 16 
 -- the width afterwards: a taken reset gives width 8, a taken instruction what its byte says
 abbrev pub widthAfter : Bool → Open → Noted → Bool
 widthAfter eight o e =
-    pick (not (eqb (e .number) 0)) eight
+    pick (not (carriedOut (e .number))) eight
     (pick (isReset (e .bytes)) true
     (pick (rsOf (e .bytes) || rwOf (e .bytes)) eight (widthBy (byteBy o e) eight)))
 

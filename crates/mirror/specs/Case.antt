@@ -1,11 +1,11 @@
--- EACH ANSWER IN ITS CASE and in no other (document 01, "Answer numbers"): what holds of panel and log where the table gives a number.
+-- EACH ANSWER IN ITS CASE and in no other (document 01, "Answer numbers"; doubtful, document 02, wish 2): what holds of panel and log where the table gives a number.
 use Prim.Native.Nat.{ℕ}
 use mathlib.Core.Path.{_≡_}
 use mathlib.Core.Bool.{true, false}
 use mathlib.Core.List.{List}
 use Rattle.log.specs.Frame.{isReset, cutAt, badAt}
 use Rattle.mirror.specs.Panel.{soundPanel}
-use Rattle.mirror.specs.Table.{isBack, tears, ignores, isNone, isFirst, isStatus}
+use Rattle.mirror.specs.Table.{isBack, tears, ignores, isNone, isFirst, isStatus, isDoubtful}
 use Rattle.mirror.specs.declared.panel.Panel.{Panel}
 
 -- neither 10, 8, 6 nor 5
@@ -38,4 +38,5 @@ pub data Case (p : Panel) (log : List ℕ) : ℕ → Type 0 where
   nothing : Paired p log → ignores p log ≡ false → isNone p log ≡ true → Case p log 7
   held : Acts p log → isFirst p ≡ true → Case p log 1
   status : Acts p log → isFirst p ≡ false → isStatus log ≡ true → Case p log 2
-  taken : Acts p log → isFirst p ≡ false → isStatus log ≡ false → Case p log 0
+  doubtful : Acts p log → isFirst p ≡ false → isStatus log ≡ false → isDoubtful p log ≡ true → Case p log 11
+  taken : Acts p log → isFirst p ≡ false → isStatus log ≡ false → isDoubtful p log ≡ false → Case p log 0

@@ -8,6 +8,7 @@ pub mod Stream
 pub mod Promise
 pub mod Answers
 pub mod Busy
+pub mod Good
 pub mod engine
 pub mod laws
 pub mod cases

@@ -10,7 +10,7 @@ use Rattle.laws.specs.Pick.{pick}
 use Rattle.log.specs.Frame.{wantsMore}
 use Rattle.log.specs.Frames.{frames, tail}
 use Rattle.log.specs.Carry.{filled}
-use Rattle.mirror.specs.Answer.{numberOf, Paper, paper}
+use Rattle.mirror.specs.Answer.{numberOf, countPlaces, Paper, paper}
 use Rattle.mirror.specs.Panel.{soundPanel}
 use Rattle.mirror.specs.Table.{numberFor, byteFor, Tabled, recordOf}
 use Rattle.mirror.specs.Run.{started, onward}
@@ -57,7 +57,7 @@ pub record Replies (st : Stream) (part : List ℕ) (r : Next) : Type 0 where
   pub is : r ≡ nextOf st part
   pub told : soundPanel (st .totals .panel) ≡ true → spoken (r .reply) ≡ spokenFor st part
 
--- this paper's number of a run, none where it was read to its end; its eight counts; whether it was cut
+-- this paper's number of a run, none where it was read to its end; its nine counts; whether it was cut
 pub record Summed : Type 0 where
   pub number : Option ℕ
   pub counts : List ℕ
@@ -74,7 +74,7 @@ runNumber r = pick (r .refused) (numberOf say.Unsound) (pick (r .cut) (numberOf 
 abbrev pub summedFor : Panel → List ℕ → Summed
 summedFor p log =
     let cut = ltb 0 (length (tail log)) in
-    pick (not (soundPanel p)) (record { number = some 10; counts = replicate 8 0; cut = false })
+    pick (not (soundPanel p)) (record { number = some 10; counts = replicate countPlaces 0; cut = false })
     (record { number = pick cut (some 8) none; counts = onward (started p) (frames log) .counts; cut = cut })
 
 -- A RUN

@@ -4,7 +4,7 @@ use mathlib.Core.List.{List, [], _∷_}
 use lib.ListN.{getD, set, replicate}
 use lib.Dec.{ltb}
 use Rattle.laws.specs.Pick.{pick}
-use Rattle.mirror.specs.Answer.{numberOf}
+use Rattle.mirror.specs.Answer.{numberOf, countPlaces, placeOf}
 use Rattle.mirror.specs.Table.{rowFor}
 use Rattle.mirror.specs.declared.answer.Answer.{Answer}
 use Rattle.mirror.specs.declared.panel.Panel.{Panel}
@@ -23,15 +23,15 @@ capped n = pick (ltb n mostCount) n mostCount
 abbrev pub raised : ℕ → ℕ
 raised n = pick (ltb n mostCount) (n + 1) n
 
--- the count of an answer from 0 to 7, raised
+-- the count of an answer, at its place, raised
 unfoldable pub tallied : List ℕ → Answer → List ℕ
 tallied counts answer =
-    let n = numberOf answer in
-    pick (ltb n 8) (set counts n (raised (getD counts n 0))) counts
+    let n = placeOf (numberOf answer) in
+    pick (ltb n countPlaces) (set counts n (raised (getD counts n 0))) counts
 
 -- nothing is read yet
 abbrev pub started : Panel → Totals
-started p = record { panel = p; counts = replicate 8 0; records = 0 }
+started p = record { panel = p; counts = replicate countPlaces 0; records = 0 }
 
 -- the totals after a record that was answered so
 abbrev pub counted : Totals → Recorded → Totals

@@ -10,6 +10,7 @@ use Rattle.log.specs.Frames.{frames, tail, recordsOf}
 use Rattle.log.specs.Flaw.{flawOf}
 use Rattle.log.specs.Carry.{carriedOf, carryOf, wantingOf, more, filled}
 use Rattle.chip.specs.Sizes.{oneLine}
+use Rattle.mirror.specs.Answer.{countPlaces}
 use Rattle.mirror.specs.Panel.{soundPanel, freshPanel}
 use Rattle.mirror.specs.Table.{rowFor}
 use Rattle.mirror.specs.Run.{capped, raised, started, counted, onward}
@@ -81,7 +82,7 @@ cutOf st = pick (st .over) true (ltb 0 (st .carry .len))
 abbrev pub endOf : Stream → Run
 endOf st =
     pick (st .refused)
-    (record { panel = st .given; counts = replicate 8 0; records = st .totals .records; cut = false; refused = true })
+    (record { panel = st .given; counts = replicate countPlaces 0; records = st .totals .records; cut = false; refused = true })
     (record { panel = st .totals .panel; counts = st .totals .counts; records = st .totals .records; cut = cutOf st; refused = false })
 
 -- a run: the records one after another from the panel; cut where something is left. Of a refused one only the records are read off
@@ -90,7 +91,7 @@ runAs sound p log =
     let t = onward (started p) (frames log) in
     pick sound
     (record { panel = t .panel; counts = t .counts; records = t .records; cut = ltb 0 (length (tail log)); refused = false })
-    (record { panel = p; counts = replicate 8 0; records = capped (recordsOf log); cut = false; refused = true })
+    (record { panel = p; counts = replicate countPlaces 0; records = capped (recordsOf log); cut = false; refused = true })
 
 unfoldable pub runOf : Panel → List ℕ → Run
 runOf p log = runAs (soundPanel p) p log

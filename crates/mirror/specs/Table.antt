@@ -1,4 +1,4 @@
--- The table of answers (document 01, "Answer numbers", "Busy", "Halves"), row by row and in the stated order.
+-- The table of answers (document 01, "Answer numbers", "Busy", "Halves"; doubtful, document 02, wish 2), row by row and in the stated order.
 -- It does not look at how the engine decides: `answered-sound` (TableLaws.antt) holds the one against the other.
 use Prim.Native.Nat.{ℕ, _*_, _%_, _/_}
 use mathlib.Core.Path.{_≡_}
@@ -10,9 +10,9 @@ use Rattle.log.specs.Frame.{timeOf, dataOf, rsOf, rwOf, isTransfer, isReset, re
 use Rattle.chip.specs.Sheet.{freshSheet}
 use Rattle.chip.specs.Step.{obeyed, written, passed}
 use Rattle.chip.specs.declared.sheet.Sheet.{Sheet}
-use Rattle.mirror.specs.Answer.{answerOf, paper}
+use Rattle.mirror.specs.Answer.{answerOf, carriedOut, paper}
 use Rattle.mirror.specs.Panel.{soundPanel}
-use Rattle.mirror.specs.Words.{nibbleOf, joinedOf, free, statusOf, hereOf, holding, done, high}
+use Rattle.mirror.specs.Words.{nibbleOf, joinedOf, free, statusOf, isGood, readByte, holding, done, high}
 use Rattle.mirror.specs.declared.half.Half.{Half}
 use Rattle.mirror.specs.declared.half.Half.the-variants.{Empty, Ignored, Waiting}
 use Rattle.mirror.specs.declared.panel.Panel.{Panel}
@@ -62,14 +62,19 @@ ignores p log = busyAt (p .half) (not (isStatus log) && not (free (timeOf log) p
 abbrev pub isNone : Panel → List ℕ → Bool
 isNone p log = not (isFirst p) && not (rsOf log) && not (rwOf log) && eqb (byteOf p log) 0
 
--- the number of a transfer that is neither cut, bad nor back: 4, 3, 7, the rest
+-- doubtful: a data read that isn't good
+abbrev pub isDoubtful : Panel → List ℕ → Bool
+isDoubtful p log = rsOf log && rwOf log && not (isGood p)
+
+-- the number of a transfer that is neither cut, bad nor back: 4, 3, 7, the rest; 11 is given in place of 0, last in the order
 abbrev pub transferFor : Panel → List ℕ → ℕ
 transferFor p log =
     pick (tears p log) 4
     (pick (ignores p log) 3
     (pick (isNone p log) 7
     (pick (isFirst p) 1
-    (pick (isStatus log) 2 0))))
+    (pick (isStatus log) 2
+    (pick (isDoubtful p log) 11 0)))))
 
 -- the number of a record whose panel is sound. Order: 8, 6, 5; then a reset is taken; then a transfer's
 abbrev pub heardFor : Panel → List ℕ → ℕ
@@ -83,9 +88,9 @@ heardFor p log =
 abbrev pub numberFor : Panel → List ℕ → ℕ
 numberFor p log = pick (not (soundPanel p)) 10 (heardFor p log)
 
--- what a read gives: the status, or the byte at the address
+-- what a read gives: the status, or the byte at the address, which is 0 unless the read is good
 abbrev pub sourceOf : Panel → List ℕ → ℕ
-sourceOf p log = pick (isStatus log) (statusOf (timeOf log) p) (hereOf p)
+sourceOf p log = pick (isStatus log) (statusOf (timeOf log) p) (readByte p)
 
 -- whole at width 8; read halves stand in the high four bits, and the second was fixed at the first
 abbrev pub readOf : Panel → List ℕ → ℕ
@@ -103,7 +108,7 @@ heldHalf p log = Waiting (rsOf log) (rwOf log) (pick (rwOf log) (sourceOf p log 
 abbrev pub ignoredHalf : Panel → List ℕ → Half
 ignoredHalf p log = pick (isFirst p) (Ignored (rsOf log) (rwOf log)) Empty
 
--- what a taken record does to the sheet: a reset, which keeps the chip, a data read, a data write, an instruction
+-- what a record carried out does to the sheet: a reset, which keeps the chip, a data read, a data write, an instruction
 abbrev pub sheetFor : Panel → List ℕ → Sheet
 sheetFor p log =
     pick (isReset log) (freshSheet (p .sheet .registers .chip))
@@ -121,7 +126,7 @@ spanFor p log = pick (isReset log) (p .times .reset) (pick (isLong p log) (p .ti
 -- the panel afterwards: 5, 6, 8 and 10 leave it unchanged
 abbrev pub panelFor : ℕ → Panel → List ℕ → Panel
 panelFor n p log =
-    pick (eqb n 0) (done (timeOf log) (sheetFor p log) (spanFor p log) p)
+    pick (carriedOut n) (done (timeOf log) (sheetFor p log) (spanFor p log) p)
     (pick (eqb n 1) (holding (timeOf log) (heldHalf p log) p)
     (pick (eqb n 2) (holding (timeOf log) Empty p)
     (pick (eqb n 3) (holding (timeOf log) (ignoredHalf p log) p)

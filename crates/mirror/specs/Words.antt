@@ -1,4 +1,4 @@
--- Words that the table of answers is written in (document 01, "Busy", "Halves"); the engine's definitions use them too.
+-- Words that the table of answers is written in (document 01, "Busy", "Halves"; of good reads, document 02, wish 2); the engine's definitions use them too.
 use Prim.Native.Nat.{ℕ, _+_, _*_, _%_, _/_}
 use mathlib.Core.Bool.{Bool}
 use lib.Dec.{leb}
@@ -23,6 +23,14 @@ statusOf time p =
 -- the byte at the address
 abbrev pub hereOf : Panel → ℕ
 hereOf p = readHere (p .sheet .registers) (p .sheet .display) (p .sheet .pattern)
+
+-- whether the next read is good
+abbrev pub isGood : Panel → Bool
+isGood p = p .sheet .registers .good
+
+-- what a data read gives: the byte at the address where it is good, and 0 where it is not
+abbrev pub readByte : Panel → ℕ
+readByte p = pick (isGood p) (hereOf p) 0
 
 -- the last time set, and the half that then waits
 abbrev pub holding : ℕ → Half → Panel → Panel

@@ -14,4 +14,5 @@ pub mod HalfLaws
 pub mod SoundLaws
 pub mod TypedLaws
 pub mod BusyLaws
+pub mod GoodLaws
 pub mod AskedLaws

@@ -73,8 +73,8 @@ pub(crate) fn modes_of(registers: Registers) -> Modes
 }
 
 // The registers put together again.
-pub(crate) fn registers(chip: u8, a: Address, shift: u8, modes: Modes) -> Registers
-    ensures { λ r. ⌜ r ≡ registersWith chip a shift modes ⌝ }
+pub(crate) fn registers(chip: u8, a: Address, shift: u8, good: bool, modes: Modes) -> Registers
+    ensures { λ r. ⌜ r ≡ registersWith chip a shift good modes ⌝ }
 {
     Registers {
         chip,
@@ -87,5 +87,6 @@ pub(crate) fn registers(chip: u8, a: Address, shift: u8, modes: Modes) -> Regist
         blink: modes.blink,
         eight: modes.eight,
         function: modes.function,
+        good,
     }
 }

@@ -32,6 +32,8 @@ pub struct Live {
     pub display: DisplayAddress,
     pub pattern: PatternAddress,
     pub shift: u8,
+    // Whether the next read is good. It stands apart from the modes, which are seven bytes for the compiler's sake.
+    pub good: bool,
     pub modes: Modes,
     pub busy: u64,
     // The half that waits: 0 for none, 1 for one that the busy chip ignored, and otherwise one that counts. Its bits and
@@ -67,6 +69,7 @@ impl Live {
             display: display_part(a),
             pattern: pattern_part(a),
             shift: r.shift,
+            good: r.good,
             modes: modes_of(r),
             busy: panel.busy,
             waits: 2,
@@ -108,7 +111,7 @@ impl Live {
         ensures { λ r. ⌜ r ≡ registersOf self ⌝ }
     {
         let m = self.modes;
-        registers(self.chip, self.address(), self.shift, m)
+        registers(self.chip, self.address(), self.shift, self.good, m)
     }
 
     fn half(self) -> Half
@@ -248,24 +251,33 @@ impl Live {
         registers: Registers,
         time: u64,
         span: u16,
+        answer: Answer,
         byte: u8,
         used: usize,
     ) -> Live
         requires { ⌜ time < timeEnd ⌝ }
-        ensures { λ r. ⌜ Does registers time span byte used self r ⌝ }
+        ensures { λ r. ⌜ Does registers time span answer byte used self r ⌝ }
     {
         let a = registers.address;
-        let left = self.pass(time, Answer::Taken, byte, used);
+        let left = self.pass(time, answer, byte, used);
         Live {
             chip: registers.chip,
             patterned: patterned(a),
             display: display_part(a),
             pattern: pattern_part(a),
             shift: registers.shift,
+            good: registers.good,
             modes: modes_of(registers),
             busy: time + span as u64,
             ..left
         }
+    }
+
+    // What a data read gives: this byte where it is good, and 0 where it is not.
+    pub(crate) fn read_byte(self, byte: u8) -> u8
+        ensures { λ r. ⌜ r ≡ pick (self .good) byte 0 ⌝ }
+    {
+        if self.good { byte } else { 0 }
     }
 
     // The byte of a status read.

@@ -2,14 +2,15 @@
 ghost use mathlib.Core.Path.{_≡_};
 ghost use Rattle.mirror.specs.engine.Part.{raisedBy, addedTo, bumped, Room};
 use crate::answer::Answer;
+use crate::count::COUNTS;
 
 // One more of this answer.
-pub(crate) fn bump(part: &mut [u64; 8], answer: Answer)
+pub(crate) fn bump(part: &mut [u64; COUNTS], answer: Answer)
     requires { ⌜ Room (now part) answer ⌝ }
     ensures { λ _. ⌜ now (part .exit) ≡ bumped (now (part .entry)) answer ⌝ }
 {
-    let n = answer.number() as usize;
-    if n < 8 {
+    let n = answer.place() as usize;
+    if n < COUNTS {
         part[n] = part[n] + 1;
     }
 }
@@ -26,12 +27,12 @@ pub(crate) fn plus(count: u64, more: u64) -> u64
 }
 
 // The counts so far with those of the part.
-pub(crate) fn added(counts: [u64; 8], part: [u64; 8]) -> [u64; 8]
+pub(crate) fn added(counts: [u64; COUNTS], part: [u64; COUNTS]) -> [u64; COUNTS]
     ensures { λ r. ⌜ r ≡ addedTo counts part ⌝ }
 {
     let mut sums = counts;
     let mut i: usize = 0;
-    while i < 8 {
+    while i < COUNTS {
         sums[i] = plus(sums[i], part[i]);
         i += 1;
     }

@@ -5,6 +5,7 @@ ghost use Rattle.mirror.specs.Stream.{startOf, panelIn, numberIn, frontO
 ghost use Rattle.mirror.specs.engine.Reading.{stoppedOf};
 ghost use Rattle.mirror.specs.Promise.{Replies, Runs, endNumber, runNumber};
 use crate::answer::Answer;
+use crate::count::COUNTS;
 use crate::count::raise;
 use crate::panel::Panel;
 use crate::totals::Totals;
@@ -28,7 +29,7 @@ pub struct Stream {
 
 pub struct Run {
     pub panel: Panel,
-    pub counts: [u64; 8],
+    pub counts: [u64; COUNTS],
     pub records: u64,
     pub cut: bool,
     pub refused: bool,
@@ -240,7 +241,7 @@ impl Stream {
             let given = self.given;
             return Run {
                 panel: given,
-                counts: [0; 8],
+                counts: [0; COUNTS],
                 records,
                 cut: false,
                 refused: true,

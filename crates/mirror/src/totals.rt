@@ -1,9 +1,11 @@
 // What a run has come to, and the loop over the records of a log.
 ghost use mathlib.Core.Path.{_≡_};
-ghost use Rattle.mirror.specs.Run.{tallied, started, counted};
+ghost use Rattle.mirror.specs.Run.{started, counted};
 ghost use Rattle.mirror.specs.engine.Reading.{consumedOf};
 use crate::answer::Answer;
+use crate::count::COUNTS;
 use crate::count::raise;
+use crate::count::tally;
 use crate::live::Live;
 use crate::panel::Panel;
 use crate::part::added;
@@ -11,10 +13,10 @@ use crate::part::bump;
 use crate::part::plus;
 use crate::record::Recorded;
 
-// The panel, the counts of answers 0 to 7, and the number of records.
+// The panel, the counts, each at its answer's place, and the number of records.
 pub struct Totals {
     pub panel: Panel,
-    pub counts: [u64; 8],
+    pub counts: [u64; COUNTS],
     pub records: u64,
 }
 
@@ -24,16 +26,6 @@ pub struct Consumed {
     pub at: usize,
 }
 
-// The count of an answer, raised.
-fn tally(counts: &mut [u64; 8], answer: Answer)
-    ensures { λ _. ⌜ now (counts .exit) ≡ tallied (now (counts .entry)) answer ⌝ }
-{
-    let n = answer.number() as usize;
-    if n < 8 {
-        counts[n] = raise(counts[n]);
-    }
-}
-
 impl Totals {
     // Nothing is read yet.
     pub(crate) fn start(panel: Panel) -> Totals
@@ -41,7 +33,7 @@ impl Totals {
     {
         Totals {
             panel,
-            counts: [0; 8],
+            counts: [0; COUNTS],
             records: 0,
         }
     }
@@ -71,7 +63,7 @@ impl Totals {
         let mut display = sheet.display;
         let mut pattern = sheet.pattern;
         let counts = self.counts;
-        let mut part = [0u64; 8];
+        let mut part = [0u64; COUNTS];
         let mut records: u64 = 0;
         let mut live = Live::of(panel);
         let mut at: usize = 0;

@@ -1,5 +1,6 @@
 // A record's turn, and what a transfer comes to. A byte that completes is told first, so that what acts on it stands in one
-// place: the compiler sets that into the loop over records, and keeps what it would need twice out of it.
+// place: the compiler sets that into the loop over records, and keeps what it would need twice out of it. A read that is good
+// and one that is not are told apart where they are answered, so that each answer is a constant there (docs/DECISIONS.md, "Speed").
 ghost use mathlib.Core.Path.{_≡_};
 ghost use Prim.Native.Nat.{_+_, _*_, _/_, _%_, _<_};
 ghost use lib.Dec.{leb};
@@ -70,13 +71,13 @@ impl Live {
         let r = self.registers();
         if rs {
             let next = r.write(byte, display, pattern);
-            return self.done(next, time, times.short, 0, 14);
+            return self.done(next, time, times.short, Answer::Taken, 0, 14);
         }
         if byte == 0 {
             return self.pass(time, Answer::Nothing, 0, 14);
         }
         let next = r.obey(byte, display);
-        self.done(next, time, span(times, byte), 0, 14)
+        self.done(next, time, span(times, byte), Answer::Taken, 0, 14)
     }
 
     // A transfer at width 8 that completes no byte: a read, or a write that the busy chip ignores.
@@ -92,18 +93,22 @@ impl Live {
         requires { ⌜ time < timeEnd ⌝ }
         ensures { λ r. ⌜ Rests time rs rw times self (now (display .entry)) (now (pattern .entry)) r ⌝ }
     {
-        if rw {
-            if rs {
-                if self.free(time) {
-                    let r = self.registers();
-                    let b = r.here(display, pattern);
-                    return self.done(r.read(), time, times.short, b, 14);
-                }
-                return self.pass(time, Answer::Ignored, 0, 14);
-            }
+        if !rw {
+            return self.pass(time, Answer::Ignored, 0, 14);
+        }
+        if !rs {
             return self.pass(time, Answer::Status, self.status(time), 14);
         }
-        self.pass(time, Answer::Ignored, 0, 14)
+        if !self.free(time) {
+            return self.pass(time, Answer::Ignored, 0, 14);
+        }
+        let r = self.registers();
+        let next = r.read();
+        if self.good {
+            let b = r.here(display, pattern);
+            return self.done(next, time, times.short, Answer::Taken, b, 14);
+        }
+        self.done(next, time, times.short, Answer::Doubtful, 0, 14)
     }
 
     // The first half of a pair: whether it counts is decided here for the pair.
@@ -122,7 +127,8 @@ impl Live {
             if rs {
                 if self.free(time) {
                     let r = self.registers();
-                    return self.offer(time, rs, rw, r.here(display, pattern));
+                    let b = self.read_byte(r.here(display, pattern));
+                    return self.offer(time, rs, rw, b);
                 }
                 return self.miss(time, rs, rw);
             }
@@ -149,11 +155,14 @@ impl Live {
             return self.pass(time, Answer::Ignored, 0, 14);
         }
         let low = self.nibble % 16 * 16;
-        if rs {
-            let r = self.registers();
-            return self.done(r.read(), time, times.short, low, 14);
+        if !rs {
+            return self.pass(time, Answer::Status, low, 14);
         }
-        self.pass(time, Answer::Status, low, 14)
+        let read = self.registers().read();
+        if self.good {
+            return self.done(read, time, times.short, Answer::Taken, low, 14);
+        }
+        self.done(read, time, times.short, Answer::Doubtful, 0, 14)
     }
 
     // A transfer that is neither bad nor back.
@@ -203,7 +212,7 @@ impl Live {
                     self.refuse(Answer::Back, 12)
                 } else {
                     let next = Registers::fresh(self.chip, display, pattern);
-                    self.done(next, time, times.reset, 0, 12)
+                    self.done(next, time, times.reset, Answer::Taken, 0, 12)
                 }
             }
             Frame::Transfer {

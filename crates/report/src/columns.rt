@@ -51,6 +51,7 @@ fn put_time_of(page: &mut [u8; PAGE], at: usize, what: What, time: u64) -> usize
 fn put_answer(page: &mut [u8; PAGE], at: usize, answer: Answer) -> usize {
     match answer {
         Answer::Taken => put(page, at, b"\ttaken"),
+        Answer::Doubtful => put(page, at, b"\tdoubtful"),
         Answer::Held => put(page, at, b"\theld"),
         Answer::Status => put(page, at, b"\tstatus"),
         Answer::Ignored => put(page, at, b"\tignored"),

@@ -18,14 +18,15 @@ pub(crate) fn put_counts(page: &mut [u8; PAGE], at: usize, run: Run) -> usize {
     let counts = run.counts;
     let a = put_count(page, at, b"records", run.records);
     let b = put_count(page, a, b"taken", counts[0]);
-    let c = put_count(page, b, b"held", counts[1]);
-    let d = put_count(page, c, b"status", counts[2]);
-    let e = put_count(page, d, b"ignored", counts[3]);
-    let f = put_count(page, e, b"torn", counts[4]);
-    let g = put_count(page, f, b"back", counts[5]);
-    let h = put_count(page, g, b"bad", counts[6]);
-    let i = put_count(page, h, b"none", counts[7]);
-    put_count(page, i, b"cut", run.cut as u64)
+    let c = put_count(page, b, b"doubtful", counts[1]);
+    let d = put_count(page, c, b"held", counts[2]);
+    let e = put_count(page, d, b"status", counts[3]);
+    let f = put_count(page, e, b"ignored", counts[4]);
+    let g = put_count(page, f, b"torn", counts[5]);
+    let h = put_count(page, g, b"back", counts[6]);
+    let i = put_count(page, h, b"bad", counts[7]);
+    let j = put_count(page, i, b"none", counts[8]);
+    put_count(page, j, b"cut", run.cut as u64)
 }
 
 // The place of a run that was written again, where there is one.

@@ -1,3 +1,4 @@
+pub mod Line
 pub mod PanelFile
 pub mod engine
 pub mod laws

@@ -34,7 +34,7 @@ patternIn b = table (λ i. byteIn b (1 + displaySize + i)) patternSize
 abbrev pub addressIn : ℕ → ℕ → Address
 addressIn memory number = pick (eqb memory 0) (Display (display number)) (Pattern (pattern number))
 
--- 0, the chip's number; 67, shift; 68 to 72, I/D, S, D, C, B; 73, width, 8 or 4; 74, Function Set bits
+-- 0, the chip's number; 67, shift; 68 to 72, I/D, S, D, C, B; 73, width, 8 or 4; 74, Function Set bits; 101, good
 abbrev pub registersIn : List ℕ → Registers
 registersIn b = record {
   chip = byteIn b 0;
@@ -47,6 +47,7 @@ registersIn b = record {
   blink = boolIn b 72;
   eight = eqb (byteIn b 73) 8;
   function = byteIn b 74;
+  good = boolIn b 101;
 }
 
 -- 97, half: 0 none, 1 ignored, 2 waiting; 98, 99, 100, its RS, R/W and nibble
@@ -69,7 +70,7 @@ isBool b i = ltb (byteIn b i) 2
 
 abbrev pub bitsFit : List ℕ → Bool
 bitsFit b =
-    (eqb (byteIn b 73) 8 || eqb (byteIn b 73) 4) && isBool b 65 && isBool b 68 && isBool b 69 && isBool b 70 && isBool b 71 && isBool b 72
+    (eqb (byteIn b 73) 8 || eqb (byteIn b 73) 4) && isBool b 65 && isBool b 68 && isBool b 69 && isBool b 70 && isBool b 71 && isBool b 72 && isBool b 101
 
 -- RS, R/W and nibble 0 where none waits, the nibble 0 where it is ignored
 abbrev pub halfHolds : ℕ → ℕ → ℕ → ℕ → Bool

@@ -1,4 +1,6 @@
 // A line for each record of standard input, as its answer comes out of the stream.
+ghost use Rattle.desk.specs.Page.{Puts};
+ghost use Rattle.trace.specs.Line.{answerLine, tensOf};
 use desk::input::Input;
 use desk::page::PAGE;
 use desk::page::put;
@@ -15,13 +17,26 @@ pub struct Done {
     pub failed: bool,
 }
 
-// The line of a record: the number of its answer, and its byte.
-pub(crate) fn put_line(page: &mut [u8; PAGE], at: usize, number: u8, byte: u8) -> usize {
+// The tens of a number below 100, where it has any.
+fn put_tens(page: &mut [u8; PAGE], at: usize, number: u8) -> usize
+    ensures { λ r. ⌜ Puts (tensOf number) (now (page .entry)) at (now (page .exit)) r ⌝ }
+{
+    if number < 10 {
+        return at;
+    }
+    put(page, at, &[text::digit(number / 10)])
+}
+
+// The line of a record: the number of its answer in decimal, and its byte.
+pub(crate) fn put_line(page: &mut [u8; PAGE], at: usize, number: u8, byte: u8) -> usize
+    ensures { λ r. ⌜ Puts (answerLine number byte) (now (page .entry)) at (now (page .exit)) r ⌝ }
+{
+    let ones = put_tens(page, at, number);
     let digits = text::hex(byte);
     put(
         page,
-        at,
-        &[text::digit(number), b' ', digits[0], digits[1], b'\n'],
+        ones,
+        &[text::digit(number % 10), b' ', digits[0], digits[1], b'\n'],
     )
 }
 

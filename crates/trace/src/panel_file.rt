@@ -1,4 +1,4 @@
-// A panel file: 101 bytes, as docs/TRACE.md lays them out.
+// A panel file: 102 bytes, as docs/TRACE.md lays them out.
 ghost use Prim.Native.Nat.{_<_};
 ghost use mathlib.Core.Path.{_≡_};
 ghost use Rattle.log.specs.engine.Reading.{Byte, Num16, Num64};
@@ -15,7 +15,7 @@ use mirror::half::Half;
 use mirror::panel::Panel;
 use mirror::panel::Times;
 
-pub const PANEL_SIZE: usize = 101;
+pub const PANEL_SIZE: usize = 102;
 
 // Where the memories begin.
 const DISPLAY: usize = 1;
@@ -56,7 +56,14 @@ fn bits_fit(b: [u8; ROOM]) -> bool
     ensures { λ r. ⌜ r ≡ bitsFit b ⌝ }
 {
     let width = (b[73] == 8) | (b[73] == 4);
-    width & (b[65] < 2) & (b[68] < 2) & (b[69] < 2) & (b[70] < 2) & (b[71] < 2) & (b[72] < 2)
+    width
+        & (b[65] < 2)
+        & (b[68] < 2)
+        & (b[69] < 2)
+        & (b[70] < 2)
+        & (b[71] < 2)
+        & (b[72] < 2)
+        & (b[101] < 2)
 }
 
 // Whether a half's bytes are ones that the types can hold: no field where none waits, no nibble where it is ignored.
@@ -131,6 +138,7 @@ fn registers_of(bytes: [u8; ROOM]) -> Registers
         blink: bytes[72] == 1,
         eight: bytes[73] == 8,
         function: bytes[74],
+        good: bytes[101] == 1,
     }
 }
 

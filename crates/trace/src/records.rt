@@ -2,7 +2,7 @@
 ghost use Prim.Native.Nat.{_≤_};
 ghost use mathlib.Core.Path.{_≡_};
 ghost use lib.ListN.{length};
-ghost use Rattle.trace.specs.engine.Records.{Moved, tallyAfter, countsWith, tallyOver, tallyRun, tallyStart};
+ghost use Rattle.trace.specs.engine.Records.{Moved, tallyAfter, tallyOver, tallyRun, tallyStart};
 use crate::answers::Done;
 use crate::answers::answer_all;
 use crate::answers::put_line;
@@ -11,7 +11,9 @@ use desk::page::PAGE;
 use desk::page::write_out;
 use log::front::wants_more;
 use mirror::answer::Answer;
+use mirror::count::COUNTS;
 use mirror::count::raise;
+use mirror::count::tally;
 use mirror::panel::Panel;
 use mirror::record::Recorded;
 use mirror::stream::Run;
@@ -21,23 +23,10 @@ use mirror::stream::Stream;
 // none did; and how many bytes of the block were used.
 struct Tally {
     panel: Panel,
-    counts: [u64; 8],
+    counts: [u64; COUNTS],
     records: u64,
     ended: u8,
     used: usize,
-}
-
-// One more of an answer's number.
-fn counted(counts: [u64; 8], number: u8) -> [u64; 8]
-    ensures { λ r. ⌜ r ≡ countsWith counts number ⌝ }
-{
-    let n = number as usize;
-    if 8 <= n {
-        return counts;
-    }
-    let mut more = counts;
-    more[n] = raise(counts[n]);
-    more
 }
 
 impl Tally {
@@ -46,7 +35,7 @@ impl Tally {
     {
         Tally {
             panel,
-            counts: [0; 8],
+            counts: [0; COUNTS],
             records: 0,
             ended: 0,
             used: 0,
@@ -59,8 +48,8 @@ impl Tally {
     {
         let panel = r.panel;
         let answer = r.answer;
-        let before = self.counts;
-        let counts = counted(before, answer.number());
+        let mut counts = self.counts;
+        tally(&mut counts, answer);
         Tally {
             panel,
             counts,

@@ -12,6 +12,7 @@ use desk::bytes::held;
 use desk::print::show;
 use desk::print::show_bytes;
 use desk::print::show_number;
+use mirror::count::COUNTS;
 use mirror::half::Half;
 use mirror::panel::Panel;
 use mirror::stream::Run;
@@ -71,12 +72,12 @@ fn show_registers(r: Registers) {
 
 fn show_half(half: Half) {
     match half {
-        Half::Empty => show(b"\nhalf none\n"),
+        Half::Empty => show(b"\nhalf none"),
         Half::Ignored { rs, rw } => {
             show(b"\nhalf");
             bit(rs);
             bit(rw);
-            show(b" 1 0\n");
+            show(b" 1 0");
         }
         Half::Waiting { rs, rw, nibble } => {
             show(b"\nhalf");
@@ -84,7 +85,6 @@ fn show_half(half: Half) {
             bit(rw);
             show(b" 0 ");
             short_hex(nibble);
-            show(b"\n");
         }
     }
 }
@@ -120,11 +120,14 @@ fn show_panel(panel: Panel) {
     show_number(b"\nbusy ", panel.busy);
     show_number(b" last ", panel.last);
     show_half(half);
+    show(b"\ngood");
+    bit(registers.good);
+    show(b"\n");
 }
 
-fn show_counts(counts: [u64; 8]) {
+fn show_counts(counts: [u64; COUNTS]) {
     show(b"\ncounts");
-    for i in 0..8 {
+    for i in 0..COUNTS {
         show_number(b" ", counts[i]);
     }
 }

@@ -9,7 +9,7 @@ use Rattle.mirror.specs.declared.stream.Next.{Next}
 use Rattle.mirror.specs.declared.stream.Reply.{Reply}
 use Rattle.mirror.specs.declared.stream.Reply.the-variants.{Answered, More, Cut, Refused}
 
--- answered 0 to 4 or 7, at a later time than the one asked for: 5 and 6 have no say
+-- answered 0 to 4, 7 or 11, at a later time than the one asked for: 5 and 6 have no say
 abbrev pub clockedAfter : ℕ → ℕ → Reply → Bool
 clockedAfter until last (Answered answer byte) = clocked (numberOf answer) && ltb until last
 clockedAfter until last More = false

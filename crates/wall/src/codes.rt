@@ -33,21 +33,27 @@ fn characters(codes: [u8; POSITIONS]) -> [u8; POSITIONS]
     characters
 }
 
-// The text of each of `lines` lines, from the top.
-pub(crate) fn show_text(sheet: Sheet, lines: usize) {
-    for line in 0..lines {
-        show(b"text |");
-        show(&characters(codes(sheet, line)));
-        show(b"|\n");
-    }
+fn show_text(codes: [u8; POSITIONS]) {
+    show(b"text |");
+    show(&characters(codes));
+    show(b"|\n");
 }
 
-// The codes of each of `lines` lines, from the top.
-pub(crate) fn show_codes(sheet: Sheet, lines: usize) {
+fn show_codes(codes: [u8; POSITIONS]) {
+    show(b"codes");
+    show_bytes(b" ", &codes);
+    show(b"\n");
+}
+
+// What each of `lines` lines shows, from the top: as text, or as numbers.
+pub(crate) fn show_lines(sheet: Sheet, lines: usize, text: bool) {
     for line in 0..lines {
-        show(b"codes");
-        show_bytes(b" ", &codes(sheet, line));
-        show(b"\n");
+        let shown = codes(sheet, line);
+        if text {
+            show_text(shown);
+        } else {
+            show_codes(shown);
+        }
     }
 }
 

@@ -5,9 +5,8 @@ ghost use Rattle.desk.specs.Bytes.{fileBytes};
 ghost use Rattle.picture.specs.Frame.{mostFrameSize};
 ghost use Rattle.picture.specs.Paint.{frameAfter};
 use crate::bitmap::write_bitmap;
-use crate::codes::show_codes;
 use crate::codes::show_cursor;
-use crate::codes::show_text;
+use crate::codes::show_lines;
 use crate::draw::draw;
 use chip::sizes::lines;
 use desk::bytes::Bytes;
@@ -39,8 +38,8 @@ fn show_beneath(panel: Panel) {
     let sheet = panel.sheet;
     let registers = sheet.registers;
     let count = lines(registers.chip);
-    show_text(sheet, count);
-    show_codes(sheet, count);
+    show_lines(sheet, count, true);
+    show_lines(sheet, count, false);
     show_cursor(shown(registers), count);
 }
 

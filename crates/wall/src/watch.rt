@@ -17,7 +17,7 @@ pub struct Seen {
     pub failed: bool,
 }
 
-// Whether a record was answered whose time counts, 0 to 4 or 7, and that time is later.
+// Whether a record was answered whose time counts, 0 to 4, 7 or 11, and that time is later.
 fn later(next: Next, until: u64) -> bool
     ensures { λ r. ⌜ r ≡ laterThan until next ⌝ }
 {
@@ -25,10 +25,7 @@ fn later(next: Next, until: u64) -> bool
     let stream = next.stream;
     let panel = stream.panel();
     match reply {
-        Reply::Answered { answer, byte: _ } => {
-            let number = answer.number();
-            ((number <= 4) | (number == 7)) & (until < panel.last)
-        }
+        Reply::Answered { answer, byte: _ } => answer.clocked() & (until < panel.last),
         Reply::More => false,
         Reply::Cut => false,
         Reply::Refused => false,

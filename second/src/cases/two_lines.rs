@@ -1,15 +1,13 @@
 //! Cases of the two-line chip, from a fresh panel of the usual times, worked out
 //! by hand from the rules. Some are of both chips, side by side.
 
-use super::{at_display, case, forty_apart, fresh, numbers, painted, Case, DATA, INSTRUCTION, STATUS};
+use super::{at_display, answered, case, forty_apart, fresh, numbers, painted, Case, DATA, DATA_READ, INSTRUCTION, STATUS};
 use crate::arguments;
 use crate::chips::Chip;
 use crate::log;
 use crate::panel::{Panel, Run};
 use crate::picture::Painting;
 use crate::prints;
-
-const DATA_READ: u8 = DATA | STATUS;
 
 pub fn all() -> Vec<Case> {
     let mut all = addresses();
@@ -77,8 +75,10 @@ fn shifts_and_settings() -> Vec<Case> {
 
 fn resets_and_reads() -> Vec<Case> {
     let both_lines = forty_apart(&[(DATA, 0x41), (INSTRUCTION, 0x90), (DATA, 0x42)]);
+    // The address is set after the width, or the read would be doubtful.
     let narrow = [
-        (INSTRUCTION, 0x9B), (INSTRUCTION, 0x20), (STATUS, 0), (STATUS, 0), (DATA_READ, 0), (DATA_READ, 0), (STATUS, 0),
+        (INSTRUCTION, 0x20), (INSTRUCTION, 0x90), (INSTRUCTION, 0xB0), (STATUS, 0), (STATUS, 0), (DATA_READ, 0),
+        (DATA_READ, 0), (STATUS, 0),
     ];
     vec![
         two("a reset of both lines", [both_lines, log::write_reset(120)].concat(), |panel, run, _| {
@@ -88,10 +88,9 @@ fn resets_and_reads() -> Vec<Case> {
             numbers(run) == [0, 2] && run.answers[1].byte == 0x1B
         }),
         two("status and data at 1Bh, width 4", forty_apart(&narrow), |panel, run, _| {
-            let bytes: Vec<u8> = run.answers.iter().map(|answer| answer.byte).collect();
-            numbers(run) == [0, 0, 1, 2, 1, 0, 1]
-                && bytes == [0, 0, 0x10, 0xB0, 0x20, 0x00, 0x10]
-                && at_display(&panel.sheet, 0x1C)
+            let expected =
+                [(0, 0), (1, 0), (0, 0), (1, 0x10), (2, 0xB0), (1, 0x20), (0, 0x00), (1, 0x10)];
+            answered(run, &expected) && at_display(&panel.sheet, 0x1C)
         }),
     ]
 }
@@ -137,7 +136,7 @@ fn prints() -> Vec<Case> {
     let log = forty_apart(&[(DATA, 0x57), (INSTRUCTION, 0x9F), (DATA, 0x58), (INSTRUCTION, 0x91)]);
     vec![
         two("2M: an empty log", Vec::new(), |panel, run, _| {
-            run.counts == [0; 8] && !run.cut && *panel == fresh(Chip::TWO_LINES)
+            run.counts == [0; 9] && !run.cut && *panel == fresh(Chip::TWO_LINES)
         }),
         two("both lines, glazomir", log.clone(), |panel, _, log| {
             prints::glazomir(&fresh(panel.sheet.chip), log) == GLAZOMIR
@@ -155,6 +154,7 @@ fn prints() -> Vec<Case> {
 const GLAZOMIR: &str = "\
 records 4
 taken 4
+doubtful 0
 held 0
 status 0
 ignored 0
@@ -174,7 +174,7 @@ const TRACE: &str = "\
 0 00
 records 4
 cut 0
-counts 4 0 0 0 0 0 0 0
+counts 4 0 0 0 0 0 0 0 0
 sound 1
 chip 35
 display 57 20 20 20 20 20 20 20 20 20 20 20 20 20 20 20 20 20 20 20 20 20 20 20 20 20 20 20 20 20 20 58
@@ -186,4 +186,5 @@ screen 0 0 0
 width 8 function 0
 busy 160 last 120
 half none
+good 1
 ";

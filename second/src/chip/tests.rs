@@ -18,6 +18,7 @@ fn used() -> Sheet {
         b: true,
         width: Width::Four,
         function: 0b1010,
+        good: true,
     }
 }
 
@@ -39,16 +40,17 @@ fn in_pattern(at: u8) -> Sheet {
 #[test]
 fn clear_leaves_s_and_everything_it_does_not_name() {
     let counter = Display(DisplayAddress(0));
-    assert_eq!(instructed(0x01), Sheet { display: [0x20; 32], counter, shift: 0, i_d: true, ..used() });
+    let cleared = Sheet { display: [0x20; 32], counter, shift: 0, i_d: true, good: false, ..used() };
+    assert_eq!(instructed(0x01), cleared);
     let mut sheet = Sheet { s: false, ..in_pattern(20) };
     sheet.carry_out(Entry::Instruction(0x01));
-    assert_eq!(sheet, Sheet { display: [0x20; 32], counter, shift: 0, i_d: true, s: false, ..used() });
+    assert_eq!(sheet, Sheet { s: false, ..cleared });
 }
 
 #[test]
 fn home_is_02h_and_03h() {
     for code in [0x02, 0x03] {
-        let home = Sheet { counter: Display(DisplayAddress(0)), shift: 0, ..used() };
+        let home = Sheet { counter: Display(DisplayAddress(0)), shift: 0, good: false, ..used() };
         assert_eq!(instructed(code), home);
         let mut sheet = in_pattern(31);
         sheet.carry_out(Entry::Instruction(code));
@@ -59,7 +61,7 @@ fn home_is_02h_and_03h() {
 #[test]
 fn entry_bits() {
     for (code, i_d, s) in [(0x04, false, false), (0x05, false, true), (0x06, true, false), (0x07, true, true)] {
-        assert_eq!(instructed(code), Sheet { i_d, s, ..used() });
+        assert_eq!(instructed(code), Sheet { i_d, s, good: false, ..used() });
     }
 }
 
@@ -69,7 +71,7 @@ fn display_bits() {
         (0x08, false, false, false), (0x09, false, false, true), (0x0A, false, true, false),
         (0x0C, true, false, false), (0x0D, true, false, true), (0x0E, true, true, false), (0x0F, true, true, true),
     ] {
-        assert_eq!(instructed(code), Sheet { d, c, b, ..used() });
+        assert_eq!(instructed(code), Sheet { d, c, b, good: false, ..used() });
     }
 }
 
@@ -84,7 +86,7 @@ fn moves_and_shifts() {
     for (from, code, to) in [(0, 0x10, 31), (31, 0x14, 0), (15, 0x14, 16), (16, 0x10, 15)] {
         let mut sheet = in_pattern(from);
         sheet.carry_out(Entry::Instruction(code));
-        assert_eq!(sheet, in_pattern(to));
+        assert_eq!(sheet, Sheet { good: false, ..in_pattern(to) });
     }
     for (from, code, to) in [(15, 0x18, 0), (0, 0x1C, 15)] {
         let mut sheet = Sheet { shift: from, ..used() };
@@ -95,9 +97,10 @@ fn moves_and_shifts() {
 
 #[test]
 fn function_set() {
-    assert_eq!(instructed(0x20), Sheet { function: 0, ..used() });
-    assert_eq!(instructed(0x2F), Sheet { function: 15, ..used() });
-    assert_eq!(instructed(0x35), Sheet { width: Width::Eight, function: 5, ..used() });
+    let set = |width, function| Sheet { width, function, good: false, ..used() };
+    assert_eq!(instructed(0x20), set(Width::Four, 0));
+    assert_eq!(instructed(0x2F), set(Width::Four, 15));
+    assert_eq!(instructed(0x35), set(Width::Eight, 5));
 }
 
 #[test]
@@ -113,7 +116,7 @@ fn addresses() {
 #[test]
 fn a_display_write_shifts_with_s() {
     // I/D is 0: the address goes down, the display right.
-    let mut written = Sheet { counter: Display(DisplayAddress(8)), shift: 5, ..used() };
+    let mut written = Sheet { counter: Display(DisplayAddress(8)), shift: 5, good: false, ..used() };
     written.display[9] = 0xFF;
     assert_eq!(after(Entry::Write(0xFF)), written);
     let mut sheet = Sheet { i_d: true, shift: 15, counter: Display(DisplayAddress(15)), ..used() };
@@ -128,7 +131,7 @@ fn a_display_write_shifts_with_s() {
 fn a_pattern_write_keeps_five_bits_and_shifts_nothing() {
     let mut sheet = in_pattern(0);
     sheet.carry_out(Entry::Write(0xF5));
-    let mut written = in_pattern(31);
+    let mut written = Sheet { good: false, ..in_pattern(31) };
     written.pattern[0] = 0x15;
     assert_eq!(sheet, written);
 }
@@ -148,6 +151,6 @@ fn a_reset_gives_a_fresh_sheet_and_00h_none() {
     assert_eq!((fresh.chip, fresh.display, fresh.pattern), (Chip(31), [0x20; 32], [0; 32]));
     assert_eq!((fresh.counter, fresh.shift), (Display(DisplayAddress(0)), 0));
     assert_eq!((fresh.i_d, fresh.s, fresh.d, fresh.c, fresh.b), (true, false, false, false, false));
-    assert_eq!((fresh.width, fresh.function), (Width::Eight, 0));
+    assert_eq!((fresh.width, fresh.function, fresh.good), (Width::Eight, 0, false));
     assert_eq!(instructed(0x00), used());
 }

@@ -19,6 +19,7 @@ fn used() -> Sheet {
         b: true,
         width: Width::Four,
         function: 0b1010,
+        good: true,
     }
 }
 
@@ -48,7 +49,7 @@ fn addresses_run_on_over_both_lines() {
         assert_eq!(after(at(from), Entry::Instruction(code)), at(to), "a move from {from:02X}h");
         let start = Sheet { i_d: up, ..at(from) };
         assert_eq!(after(start.clone(), Entry::Read), Sheet { i_d: up, ..at(to) }, "a read at {from:02X}h");
-        let mut written = Sheet { i_d: up, s: false, ..at(to) };
+        let mut written = Sheet { i_d: up, s: false, good: false, ..at(to) };
         written.display[usize::from(from)] = 0x57;
         assert_eq!(after(Sheet { s: false, ..start }, Entry::Write(0x57)), written, "a write at {from:02X}h");
     }
@@ -79,7 +80,7 @@ fn writes_with_s_on_the_second_line() {
         (0x10, true, 0, 0x11, 1), (0x10, false, 0, 0x0F, 15), (0x1F, true, 15, 0x00, 0), (0x1A, false, 1, 0x19, 0),
         (0x0F, true, 7, 0x10, 8), (0x00, false, 7, 0x1F, 6),
     ] {
-        let mut written = Sheet { i_d, shift: shifted, ..at(to) };
+        let mut written = Sheet { i_d, shift: shifted, good: false, ..at(to) };
         written.display[usize::from(from)] = 0x01;
         assert_eq!(after(Sheet { i_d, shift, ..at(from) }, Entry::Write(0x01)), written, "at {from:02X}h");
     }
@@ -95,7 +96,7 @@ fn the_shift_stays_within_a_line() {
 
 #[test]
 fn clear_and_home() {
-    let home = Sheet { shift: 0, ..at(0) };
+    let home = Sheet { shift: 0, good: false, ..at(0) };
     assert_eq!(instructed(0x01), Sheet { display: [0x20; 32], i_d: true, ..home.clone() });
     assert_eq!(instructed(0x02), home);
     // Double height stays unused: 03h is Home.
@@ -106,7 +107,7 @@ fn clear_and_home() {
 fn function_set_changes_its_bits_and_the_width() {
     for code in 0x20..=0x3F {
         let width = if code < 0x30 { Width::Four } else { Width::Eight };
-        assert_eq!(instructed(code), Sheet { width, function: code & 15, ..used() }, "{code:02X}h");
+        assert_eq!(instructed(code), Sheet { width, function: code & 15, good: false, ..used() }, "{code:02X}h");
     }
 }
 
@@ -114,9 +115,9 @@ fn function_set_changes_its_bits_and_the_width() {
 fn patterns_are_as_on_one_line() {
     let pattern = |at| Sheet { counter: Pattern(PatternAddress(at)), ..used() };
     for (from, code, to) in [(31, 0x14, 0), (0, 0x10, 31), (15, 0x14, 16), (16, 0x10, 15)] {
-        assert_eq!(after(pattern(from), Entry::Instruction(code)), pattern(to));
+        assert_eq!(after(pattern(from), Entry::Instruction(code)), Sheet { good: false, ..pattern(to) });
     }
-    let mut written = pattern(15);
+    let mut written = Sheet { good: false, ..pattern(15) };
     written.pattern[16] = 0x1F;
     assert_eq!(after(pattern(16), Entry::Write(0xFF)), written, "and nothing shifts");
 }

@@ -1,7 +1,7 @@
 //! The classes that two lines brought: addresses over the ends of the lines, the
 //! chip among the words, frames of the other chip's size, chips that are unknown.
 
-use super::owned;
+use super::{owned, reads};
 use crate::chips::Chip;
 
 /// Numbers of no chip: next to the two that are known, with a bit more or less,
@@ -69,6 +69,7 @@ pub fn given(chip: Chip) -> Vec<String> {
 
 pub fn of_glazomir(chip: Chip) -> Vec<String> {
     let mut all = owned(&["display address", "pattern address", "cut log"]);
+    all.extend(owned(&reads::OF_GLAZOMIR));
     if chip.lines() == 2 {
         all.extend(owned(&["display address on the second line", "both lines written"]));
     }

@@ -1,7 +1,7 @@
 //! The classes of the report. Its print does not depend on the chip, and so is
 //! wanted of both.
 
-use super::owned;
+use super::{owned, reads};
 
 /// The codes at the ends of each instruction's range, as the report names them.
 const CODES: [&str; 18] = [
@@ -38,8 +38,8 @@ const AGAIN: [&str; 27] = [
     "not again: m does not divide", "not again: an ignored write first", "not again: the log ends first",
 ];
 
-const AMONG: [&str; 14] = [
-    "reset", "status read", "instruction taken", "instruction ignored", "data read taken",
+const AMONG: [&str; 15] = [
+    "reset", "status read", "instruction taken", "instruction ignored", "data read taken", "data read doubtful",
     "data read ignored", "bad", "back", "data write back", "torn", "data write torn",
     "torn by a data write", "none", "a half that a reset drops",
 ];
@@ -60,7 +60,7 @@ pub fn of_every_chip() -> Vec<String> {
             }
         }
     }
-    let lists: [&[&str]; 4] = [&CODES, &LINES, &TIMES, &AGAIN];
+    let lists: [&[&str]; 5] = [&CODES, &LINES, &TIMES, &AGAIN, &reads::OF_REPORT];
     all.extend(owned(&lists.concat()));
     all.extend(AMONG.map(|class| format!("among the writes: {class}")));
     all

@@ -75,6 +75,7 @@ fn sound_sheet(random: &mut Random, chip: Chip, width: Width) -> Sheet {
         b: random.flag(),
         width,
         function: random.byte() & 15,
+        good: random.flag(),
     }
 }
 
@@ -137,18 +138,18 @@ fn spoil(random: &mut Random, panel: &mut Panel, way: u64) {
 /// Bytes that the panel's types cannot hold.
 fn no_panel(random: &mut Random, panel: &Panel, way: u64) -> Vec<u8> {
     let mut bytes = panel_file::write(panel);
-    let flag_places = [65, 68, 69, 70, 71, 72, 98, 99];
-    match way % 17 {
+    let flag_places = [65, 68, 69, 70, 71, 72, 98, 99, 101];
+    match way % 18 {
         0 => bytes.truncate(random.pick(&[0, 84])),
-        1 => bytes.truncate(100),
+        1 => bytes.truncate(random.pick(&[100, 101])),
         2 => bytes.push(0),
-        sort @ 3..=10 => bytes[flag_places[sort as usize - 3]] = random.pick(&[2, 255]),
-        11 => bytes[73] = random.pick(&[0, 5, 16, 255]),
-        12 => bytes[97] = random.pick(&[3, 255]),
-        13 => bytes[97..].copy_from_slice(&[0, 1, 0, 0]),
-        14 => bytes[97..].copy_from_slice(&[0, 0, 1, 0]),
-        15 => bytes[97..].copy_from_slice(&[0, 0, 0, random.pick(&[1, 255])]),
-        _ => bytes[97..].copy_from_slice(&[1, 1, 0, random.pick(&[1, 255])]),
+        sort @ 3..=11 => bytes[flag_places[sort as usize - 3]] = random.pick(&[2, 255]),
+        12 => bytes[73] = random.pick(&[0, 5, 16, 255]),
+        13 => bytes[97] = random.pick(&[3, 255]),
+        14 => bytes[97..101].copy_from_slice(&[0, 1, 0, 0]),
+        15 => bytes[97..101].copy_from_slice(&[0, 0, 1, 0]),
+        16 => bytes[97..101].copy_from_slice(&[0, 0, 0, random.pick(&[1, 255])]),
+        _ => bytes[97..101].copy_from_slice(&[1, 1, 0, random.pick(&[1, 255])]),
     }
     bytes
 }
@@ -200,4 +201,51 @@ pub fn where_chips_part() -> Vec<Vec<u8>> {
         panels.push(panel);
     }
     panels.iter().map(panel_file::write).collect()
+}
+
+/// Panels that are good and that are not: at both widths, and at width 4 with a
+/// read half of either sort of nibble waiting too.
+pub fn good_and_not() -> Vec<Panel> {
+    let mut panels = Vec::new();
+    for chip in Chip::KNOWN {
+        for good in [true, false] {
+            let display = Counter::Display(DisplayAddress(0));
+            let pattern = Counter::Pattern(PatternAddress(9));
+            for (width, nibble, counter) in [
+                (Width::Eight, None, pattern), (Width::Four, None, display), (Width::Four, Some(0), display),
+                (Width::Four, Some(0x0E), pattern),
+            ] {
+                let half = nibble.map(|nibble| Half { rs: true, rw: true, nibble: Some(nibble) });
+                let mut panel = Panel { half, ..plain(chip) };
+                panel.sheet = Sheet { width, good, counter, pattern: [0x1B; 32], ..panel.sheet };
+                panels.push(panel);
+            }
+        }
+    }
+    panels
+}
+
+#[cfg(test)]
+mod tests {
+    use super::*;
+
+    #[test]
+    fn good_or_not_a_panel_is_sound_whatever_read_half_waits() {
+        let panels = good_and_not();
+        assert!(panels.iter().all(Panel::is_sound));
+        let with_nibble = panels.iter().filter(|panel| {
+            let not_zero = matches!(panel.half, Some(Half { rs: true, rw: true, nibble: Some(1..) }));
+            not_zero && !panel.sheet.good
+        });
+        assert_eq!((panels.len(), with_nibble.count()), (16, 2));
+    }
+
+    #[test]
+    fn bytes_that_are_no_panel() {
+        let mut random = Random::new(1, 1);
+        for way in 0..200 {
+            let panel = sound_panel(&mut random);
+            assert!(panel_file::read(&no_panel(&mut random, &panel, way)).is_err(), "way {way}");
+        }
+    }
 }

@@ -41,6 +41,7 @@ fn the_busy_end_after_each_kind_of_transfer() {
         (INSTRUCTION, 0x80, 40), (DATA, 0x01, 40), (DATA_READ, 0x01, 40),
     ] {
         let mut panel = fresh();
+        panel.sheet.good = true;
         assert_eq!(send(&mut panel, 7, control, data).0, TAKEN);
         assert_eq!((panel.busy_end, panel.last), (7 + wait, 7), "{control} {data:02X}h");
     }
@@ -131,7 +132,7 @@ fn torn_pairs() {
 #[test]
 fn reads_are_fixed_at_the_first_half() {
     let mut panel = narrow();
-    panel.sheet.display[0] = 0xA7;
+    (panel.sheet.display[0], panel.sheet.good) = (0xA7, true);
     assert_eq!(send(&mut panel, 40, DATA_READ, 0xFF), (HELD, 0xA0));
     panel.sheet.display[0] = 0x11;
     assert_eq!(send(&mut panel, 60, DATA_READ, 0xFF), (TAKEN, 0x70));
@@ -244,10 +245,10 @@ fn counts_of_a_run() {
     let report = run(&mut panel, &log);
     let numbers: Vec<u8> = report.answers.iter().map(|answer| answer.number).collect();
     assert_eq!(numbers, [TAKEN, IGNORED, IGNORED, HELD, TORN, HELD, STATUS, BACK, BAD, HELD, NONE]);
-    assert_eq!((report.counts, report.records), ([1, 3, 1, 2, 1, 1, 1, 1], 11));
+    assert_eq!((report.counts, report.records), ([1, 0, 3, 1, 2, 1, 1, 1, 1], 11));
     assert!(report.cut && !report.refused);
     panel.sheet.shift = 16;
     let refused = run(&mut panel, &log);
-    assert_eq!((refused.answers.len(), refused.counts, refused.records), (0, [0; 8], 11));
+    assert_eq!((refused.answers.len(), refused.counts, refused.records), (0, [0; 9], 11));
     assert!(!refused.cut && refused.refused);
 }

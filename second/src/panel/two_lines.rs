@@ -133,7 +133,7 @@ fn an_unknown_chip_is_refused_by_every_call() {
         }
         let run = run(&mut panel, &[transfer, vec![12]].concat());
         assert!(run.refused && !run.cut && run.answers.is_empty());
-        assert_eq!((run.counts, run.records), ([0; 8], 1));
+        assert_eq!((run.counts, run.records), ([0; 9], 1));
     }
     assert!(fresh(31).is_sound() && fresh(35).is_sound());
 }

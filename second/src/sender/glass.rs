@@ -2,7 +2,6 @@
 //! cursor on purpose, with whatever a box sends between one scene and the next.
 
 use super::{Habits, Sender};
-use crate::chip::Width;
 use crate::log::{self, TIME_LIMIT};
 use crate::panel::Panel;
 use crate::random::Random;
@@ -24,8 +23,7 @@ pub struct Scene {
 /// is the one given.
 pub fn send_glass(random: &mut Random, panel: Panel, target: usize, last: Scene) -> Vec<u8> {
     let habits = Habits { patient: 100, tearing: 0, faulty: random.pick(&[0, 3, 15]), stubborn: false };
-    let mut sender =
-        Sender { random, panel, believed: Width::Eight, habits, log: Vec::new(), sent: 0, leaps: false };
+    let mut sender = Sender::new(random, panel, habits);
     sender.begin_somewhere(target);
     while sender.sent < target {
         sender.phrase();

@@ -4,7 +4,7 @@
 //! What is written is laid down first, as parts that the chip is to ignore or
 //! to take; then the box sends it, and makes the chip busy where it has to.
 
-use super::{torn, Habits, Sender};
+use super::{Habits, Sender};
 use crate::chip::Width;
 use crate::log::{self, TIME_LIMIT};
 use crate::panel::Panel;
@@ -33,16 +33,7 @@ pub fn send_nights(random: &mut Random, panel: Panel, target: usize) -> Vec<u8> 
         faulty: random.pick(&[0, 0, 2]),
         stubborn: false,
     };
-    let sender = Sender {
-        random,
-        panel,
-        believed: Width::Eight,
-        habits,
-        log: Vec::new(),
-        sent: 0,
-        leaps: false,
-    };
-    let mut nights = Nights { sender, noise: 0 };
+    let mut nights = Nights { sender: Sender::new(random, panel, habits), noise: 0 };
     nights.begin();
     while nights.sender.sent < target {
         nights.phrase();
@@ -180,7 +171,7 @@ impl Nights<'_> {
             1 => self.sender.instruct(0x80 | place),
             2 => self.sender.instruct(0x01),
             3 => self.sender.instruct(place),
-            4 => self.sender.read(),
+            4 => self.one_or_two_reads(),
             5 => self.sender.reset(),
             6 | 7 => self.sender.fault(),
             8 => self.backward_write(byte),
@@ -193,6 +184,14 @@ impl Nights<'_> {
             13 => self.instruct(0x00),
             14 => self.two_faults(),
             _ => self.sender.change_width(),
+        }
+    }
+
+    /// After a data write the first is doubtful, and the second is not.
+    fn one_or_two_reads(&mut self) {
+        self.sender.read();
+        if self.random().flag() {
+            self.sender.read();
         }
     }
 
@@ -221,11 +220,7 @@ impl Nights<'_> {
         self.sender.settle();
         let (rs, rw, data) = self.anything();
         let time = if self.random().flag() { self.free_time() } else { self.busy_time() };
-        self.sender.send(time, rs, rw, data);
-        let way = self.random().below(3);
-        let (rs, rw) = torn(rs, rw, way);
-        let time = self.sender.panel.last + self.random().below(50);
-        self.sender.send(time, rs, rw, data);
+        self.sender.torn_pair(time, rs, rw, data);
     }
 
     /// A first half while the chip is busy, of anything but a status read.
@@ -275,19 +270,8 @@ impl Nights<'_> {
         }
     }
 
-    /// A transfer that begins at this time, whole or in two halves as the
-    /// chip's width is; whether it is busy is seen at the beginning alone.
     fn transfer(&mut self, time: u64, rs: bool, rw: bool, byte: u8) {
-        if self.sender.panel.sheet.width == Width::Eight {
-            return self.sender.send(time, rs, rw, byte);
-        }
-        let junk = self.random().byte();
-        self.sender.send(time, rs, rw, byte & 0xF0 | junk & 0x0F);
-        if self.sender.random.chance(self.noise / 2) {
-            self.sender.fault();
-        }
-        let time = self.sender.second_time().clamp(self.sender.panel.last, TIME_LIMIT - 1);
-        self.sender.send(time, rs, rw, byte << 4 | junk >> 4);
+        self.sender.transfer_at(time, rs, rw, byte, self.noise / 2);
     }
 }
 

@@ -3,7 +3,7 @@ use Prim.Native.Nat.{ℕ}
 use mathlib.Core.Path.{_≡_, refl}
 use mathlib.Core.Bool.{Bool, true, false}
 use Rattle.chip.specs.Instruction.{decoded}
-use Rattle.chip.specs.Step.{acted, obeyed, stepped, storedAt, followed, shiftsAt, written, passed}
+use Rattle.chip.specs.Step.{acted, obeyed, nextGood, stepped, storedAt, followed, shiftsAt, written, passed}
 use Rattle.chip.specs.declared.address.Address.{Address}
 use Rattle.chip.specs.declared.address.Address.the-variants.{Display, Pattern}
 use Rattle.chip.specs.declared.instruction.Instruction.{Instruction}
@@ -32,7 +32,7 @@ obeyed-chip code s = acted-chip (decoded (s .registers .chip) code) s
 pub written-chip : (byte : ℕ) → SameChip (written byte)
 written-chip byte s = at (s .registers .address) (shiftsAt (s .registers .address) (s .registers .follow))
   where
-    at : (a : Address) (b : Bool) → followed b (stepped (s .registers .up) (storedAt a byte s)) .registers .chip ≡ s .registers .chip
+    at : (a : Address) (b : Bool) → followed b (nextGood false (stepped (s .registers .up) (storedAt a byte s))) .registers .chip ≡ s .registers .chip
     at (Display d) true = refl
     at (Display d) false = refl
     at (Pattern p) true = refl

@@ -5,7 +5,7 @@ use mathlib.Core.Bool.{Bool, true, false}
 use Rattle.chip.specs.Sheet.{readHere}
 use Rattle.chip.specs.Regardless.{bitless, Regardless}
 use Rattle.chip.specs.Instruction.{decoded}
-use Rattle.chip.specs.Step.{acted, obeyed, stepped, storedAt, followed, writtenAt, written, passed}
+use Rattle.chip.specs.Step.{acted, obeyed, nextGood, stepped, storedAt, followed, writtenAt, written, passed}
 use Rattle.chip.specs.declared.address.Address.{Address}
 use Rattle.chip.specs.declared.address.Address.the-variants.{Display, Pattern}
 use Rattle.chip.specs.declared.instruction.Instruction.{Instruction}
@@ -44,7 +44,7 @@ written-regardless byte = forgetting (written byte) (λ s. at s (s .registers .a
     on s false = refl
 
     at : (s : Sheet) (a : Address) → bitless (writtenAt a byte (bitless s)) ≡ bitless (writtenAt a byte s)
-    at s (Display d) = on (stepped (s .registers .up) (storedAt (Display d) byte s)) (s .registers .follow)
+    at s (Display d) = on (nextGood false (stepped (s .registers .up) (storedAt (Display d) byte s))) (s .registers .follow)
     at s (Pattern p) = refl
 
 -- a data read, and the byte that it puts on the bus

@@ -15,10 +15,10 @@ use Rattle.laws.specs.Ring.{moved}
 use Rattle.laws.specs.laws.PickLaws.{past}
 use Rattle.laws.specs.laws.RingLaws.{moved-below}
 use Rattle.chip.specs.Sizes.{isKnown, twoLines, positions, placesOf, displaySize, patternSize, rowEnd, functionEnd, space}
-use Rattle.chip.specs.Address.{display, pattern, movedAddress}
+use Rattle.chip.specs.Address.{display, pattern, movedAddress, inDisplay}
 use Rattle.chip.specs.Sheet.{freshSheet}
 use Rattle.chip.specs.Instruction.{isSet, unset, decoded}
-use Rattle.chip.specs.Step.{homed, cleared, entered, screenSet, stepped, shifted, functionSet, addressSet, acted, obeyed, storedAt, followed, shiftsAt, written, passed}
+use Rattle.chip.specs.Step.{homed, cleared, entered, screenSet, stepped, shifted, functionSet, addressSet, nextGood, acted, obeyed, storedAt, followed, shiftsAt, written, passed}
 use Rattle.chip.specs.Sound.{addressFits, faultless, unblank, sixBits, blankPast, patternFits, soundSheet}
 use Rattle.chip.specs.laws.SizesLaws.{places}
 use Rattle.chip.specs.declared.address.Address.{Address}
@@ -140,6 +140,10 @@ functionSet-sound eight bits s b h = record { known = h .known; address = h .add
 pub addressSet-sound : (a : Address) (s : Sheet) → addressFits (s .registers .chip) a ≡ true → Sound s → Sound (addressSet a s)
 addressSet-sound a s f h = record { known = h .known; address = f; shift = h .shift; function = h .function; blank = h .blank; entries = h .entries }
 
+-- whether the next read is good has no say in it
+good-sound : (good : Bool) (s : Sheet) → Sound s → Sound (nextGood good s)
+good-sound good s h = record { known = h .known; address = h .address; shift = h .shift; function = h .function; blank = h .blank; entries = h .entries }
+
 -- what a code sets lies in range, on its chip
 data Fits (chip : ℕ) : Instruction → Type 0 where
   plain : (i : Instruction) → ((s : Sheet) → s .registers .chip ≡ chip → Sound s → Sound (acted i s)) → Fits chip i
@@ -147,16 +151,16 @@ data Fits (chip : ℕ) : Instruction → Type 0 where
 decoded-fits : (chip code : ℕ) → Fits chip (decoded chip code)
 decoded-fits chip code =
     by (ltb code 0x01) (plain Nothing (λ s c h. h))
-    (by (ltb code 0x02) (plain Clear (λ s c. cleared-sound s))
-    (by (ltb code 0x04) (plain Home (λ s c. homed-sound s))
-    (by (ltb code 0x08) (plain (Entry (isSet 2 code) (isSet 1 code)) (λ s c. entered-sound (isSet 2 code) (isSet 1 code) s))
-    (by (ltb code 0x10) (plain (Screen (isSet 4 code) (isSet 2 code) (isSet 1 code)) (λ s c. lit-sound (isSet 4 code) (isSet 2 code) (isSet 1 code) s))
-    (by (ltb code 0x18) (plain (Move (isSet 4 code)) (λ s c. stepped-sound (isSet 4 code) s))
+    (by (ltb code 0x02) (plain Clear (λ s c h. good-sound false (cleared s) (cleared-sound s h)))
+    (by (ltb code 0x04) (plain Home (λ s c h. good-sound false (homed s) (homed-sound s h)))
+    (by (ltb code 0x08) (plain (Entry (isSet 2 code) (isSet 1 code)) (λ s c h. good-sound false (entered (isSet 2 code) (isSet 1 code) s) (entered-sound (isSet 2 code) (isSet 1 code) s h)))
+    (by (ltb code 0x10) (plain (Screen (isSet 4 code) (isSet 2 code) (isSet 1 code)) (λ s c h. good-sound false (screenSet (isSet 4 code) (isSet 2 code) (isSet 1 code) s) (lit-sound (isSet 4 code) (isSet 2 code) (isSet 1 code) s h)))
+    (by (ltb code 0x18) (plain (Move (isSet 4 code)) (λ s c h. good-sound (inDisplay (s .registers .address)) (stepped (isSet 4 code) s) (stepped-sound (isSet 4 code) s h)))
     (by (ltb code 0x20) (plain (Shift (unset 4 code)) (λ s c. shifted-sound (unset 4 code) s))
-    (by (ltb code 0x40) (plain (Function (isSet 0x10 code) (code % functionEnd)) (λ s c. functionSet-sound (isSet 0x10 code) (code % functionEnd) s (mod-lt code (omega arith))))
+    (by (ltb code 0x40) (plain (Function (isSet 0x10 code) (code % functionEnd)) (λ s c h. good-sound false (functionSet (isSet 0x10 code) (code % functionEnd) s) (functionSet-sound (isSet 0x10 code) (code % functionEnd) s (mod-lt code (omega arith)) h)))
     (by (ltb code 0x80)
-    (plain (Set (Pattern (pattern (code % patternSize)))) (λ s c. addressSet-sound (Pattern (pattern (code % patternSize))) s (lt-ltb _ patternSize (mod-lt code (omega arith)))))
-    (plain (Set (Display (display (code % placesOf chip)))) (λ s c. addressSet-sound (Display (display (code % placesOf chip))) s (on s c)))))))))))
+    (plain (Set (Pattern (pattern (code % patternSize)))) (λ s c h. good-sound true (addressSet (Pattern (pattern (code % patternSize))) s) (addressSet-sound (Pattern (pattern (code % patternSize))) s (lt-ltb _ patternSize (mod-lt code (omega arith))) h)))
+    (plain (Set (Display (display (code % placesOf chip)))) (λ s c h. good-sound true (addressSet (Display (display (code % placesOf chip))) s) (addressSet-sound (Display (display (code % placesOf chip))) s (on s c) h)))))))))))
   where
     by : (b : Bool) {x y : Instruction} → Fits chip x → Fits chip y → Fits chip (pick b x y)
     by true p q = p
@@ -202,9 +206,10 @@ followed-sound false s h = h
 pub written-sound : (byte : ℕ) (s : Sheet) → Sound s → Sound (written byte s)
 written-sound byte s h =
     let a = s .registers .address in
-    followed-sound (shiftsAt a (s .registers .follow)) (stepped (s .registers .up) (storedAt a byte s))
-    (stepped-sound (s .registers .up) (storedAt a byte s) (stored-sound a byte s h))
+    let t = stepped (s .registers .up) (storedAt a byte s) in
+    followed-sound (shiftsAt a (s .registers .follow)) (nextGood false t)
+    (good-sound false t (stepped-sound (s .registers .up) (storedAt a byte s) (stored-sound a byte s h)))
 
 -- and a data read
 pub passed-sound : (s : Sheet) → Sound s → Sound (passed s)
-passed-sound s h = stepped-sound (s .registers .up) s h
+passed-sound s h = good-sound true (stepped (s .registers .up) s) (stepped-sound (s .registers .up) s h)

@@ -1,15 +1,15 @@
 -- The width: Function Set, 20h to 3Fh, gives it by bit 4, and nothing else changes it.
-use Prim.Native.Nat.{ℕ, _%_, _≤_}
+use Prim.Native.Nat.{ℕ, _%_}
 use mathlib.Core.Path.{_≡_, refl, ap, _∙_}
 use mathlib.Core.Bool.{Bool, true, false}
-use native.Mathlib.Omega.{arith}
 use lib.Dec.{ltb}
-use borrow.Author.Tests.{ltb-false, le-ltb}
+use borrow.Author.Tests.{ltb-false}
 use Rattle.laws.specs.Pick.{pick}
 use Rattle.chip.specs.Sizes.{placesOf, patternSize, functionEnd}
 use Rattle.chip.specs.Address.{display, pattern}
 use Rattle.chip.specs.Instruction.{isSet, unset, decoded}
 use Rattle.chip.specs.Step.{acted, obeyed, writtenAt, written}
+use Rattle.chip.specs.laws.CodeLaws.{high-code}
 use Rattle.chip.specs.laws.StepLaws.{pattern-write-keeps, display-write-keeps}
 use Rattle.chip.specs.declared.address.Address.{Address}
 use Rattle.chip.specs.declared.address.Address.the-variants.{Display, Pattern}
@@ -35,12 +35,6 @@ low-keeps chip code e =
     (either (ltb code 0x10) (keeps (Screen (isSet 4 code) (isSet 2 code) (isSet 1 code)) (λ s. refl))
     (either (ltb code 0x18) (keeps (Move (isSet 4 code)) (λ s. refl))
     (keeps (Shift (unset 4 code)) (λ s. refl))))))))
-
-high-code : (chip code : ℕ) → 0x20 ≤ code →
-    decoded chip code ≡
-    pick (ltb code 0x40) (Function (isSet 0x10 code) (code % functionEnd)) (pick (ltb code 0x80) (Set (Pattern (pattern (code % patternSize)))) (Set (Display (display (code % placesOf chip)))))
-high-code chip code h =
-    rw (le-ltb code 0x01 (omega arith), le-ltb code 0x02 (omega arith), le-ltb code 0x04 (omega arith), le-ltb code 0x08 (omega arith), le-ltb code 0x10 (omega arith), le-ltb code 0x18 (omega arith), le-ltb code 0x20 h)
 
 pub obeyed-width : (code : ℕ) (s : Sheet) →
     obeyed code s .registers .eight ≡ pick (ltb code 0x20) (s .registers .eight) (pick (ltb code 0x40) (isSet 0x10 code) (s .registers .eight))

@@ -7,7 +7,7 @@ use Rattle.log.specs.Frame.{frameOf, sizeOf}
 use Rattle.mirror.specs.declared.half.Half.the-variants.{Empty}
 use Rattle.mirror.specs.declared.panel.Panel.{Panel}
 use Rattle.demands.specs.cases.Logs.{instructAt, writeAt, statusAt, readAt, transferAt, resetAt, badRecord}
-use Rattle.demands.specs.cases.RowCases.{Hold, Row, row, answered, recording, shows, regs, down, panel, held, missed, afresh}
+use Rattle.demands.specs.cases.RowCases.{Hold, Row, row, answered, recording, shows, regs, down, panel, doubted, held, missed, afresh}
 
 -- a panel, and a row whose answer leaves it as it is: bytes, number, bytes used
 abbrev before : Panel
@@ -33,9 +33,9 @@ reset = 0xe8 ∷ 0x03 ∷ 0 ∷ 0 ∷ 0 ∷ 0 ∷ 0 ∷ 0 ∷ []
 -- whole records are taken, and what follows them is left alone
 abbrev taken : List Row
 taken =
-    row before (framed 12 1 transfer) 0 0 14 (panel (regs (shows 9) 6 0 0 1 0 1 8 5) 1_071 Empty 1_000)
-    ∷ row before (framed 12 1 transfer ++ (0xff ∷ [])) 0 0 14 (panel (regs (shows 9) 6 0 0 1 0 1 8 5) 1_071 Empty 1_000)
-    ∷ row before (framed 12 1 transfer ++ resetAt 2_000) 0 0 14 (panel (regs (shows 9) 6 0 0 1 0 1 8 5) 1_071 Empty 1_000)
+    row before (framed 12 1 transfer) 0 0 14 (panel (doubted (regs (shows 9) 6 0 0 1 0 1 8 5)) 1_071 Empty 1_000)
+    ∷ row before (framed 12 1 transfer ++ (0xff ∷ [])) 0 0 14 (panel (doubted (regs (shows 9) 6 0 0 1 0 1 8 5)) 1_071 Empty 1_000)
+    ∷ row before (framed 12 1 transfer ++ resetAt 2_000) 0 0 14 (panel (doubted (regs (shows 9) 6 0 0 1 0 1 8 5)) 1_071 Empty 1_000)
     ∷ row before (framed 10 2 reset) 0 0 12 (afresh 31_011 1_000)
     ∷ row before (framed 10 2 reset ++ (0xff ∷ [])) 0 0 12 (afresh 31_011 1_000)
     ∷ []
@@ -112,7 +112,7 @@ resetTimed time = framed 10 2 time
 
 -- 04h taken from a last time and a busy end, at a time
 abbrev takenAt : ℕ → ℕ → List ℕ → ℕ → Row
-takenAt busy last bytes time = row (panel (down 8) busy Empty last) bytes 0 0 14 (panel (regs (shows 9) 6 0 0 1 0 1 8 5) (time + 71) Empty time)
+takenAt busy last bytes time = row (panel (down 8) busy Empty last) bytes 0 0 14 (panel (doubted (regs (shows 9) 6 0 0 1 0 1 8 5)) (time + 71) Empty time)
 
 -- Times: eight bytes, the lowest first; 2^48 - 1 is a time, 2^48 is none, and nothing above it
 abbrev times : List Row

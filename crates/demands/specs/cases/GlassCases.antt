@@ -20,7 +20,7 @@ use Rattle.picture.specs.declared.paint.Painted.{Painted}
 use Rattle.picture.specs.declared.paint.Painted.the-variants as painting
 use Rattle.mirror.specs.declared.half.Half.the-variants.{Empty}
 use Rattle.mirror.specs.declared.panel.Panel.{Panel}
-use Rattle.demands.specs.cases.RowCases.{Hold, recording, shows, draws, regs, regsOf, codes, bothLines, dots, with, panelWith, panelOnTwo}
+use Rattle.demands.specs.cases.RowCases.{Hold, recording, shows, draws, regs, regsOf, codes, dots, with, panelWith, panelOn}
 
 -- what computes when a frame is painted or compared
 unfoldable pub picturing : ℕ
@@ -181,7 +181,7 @@ shown-computed = refl
 
 -- on two lines position p of line l shows display address 16 l + (p + shift) mod 16: shift, line, position; code
 abbrev shownOnTwo : ℕ × ℕ × ℕ → ℕ
-shownOnTwo p = codeAt (panelOnTwo (regs (shows 9) (p .0) 0 1 1 1 1 8 5) 900 Empty 800 .sheet) (p .1) (p .2)
+shownOnTwo p = codeAt (panelOn 35 (regs (shows 9) (p .0) 0 1 1 1 1 8 5) 900 Empty 800 .sheet) (p .1) (p .2)
 
 abbrev placesOnTwo : List ((ℕ × ℕ × ℕ) × ℕ)
 placesOnTwo =

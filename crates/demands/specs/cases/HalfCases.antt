@@ -6,7 +6,7 @@ use Rattle.chip.specs.declared.registers.Registers.{Registers}
 use Rattle.mirror.specs.declared.half.Half.{Half}
 use Rattle.mirror.specs.declared.half.Half.the-variants.{Empty}
 use Rattle.demands.specs.cases.Logs.{instructAt, writeAt, statusAt, readAt, transferAt}
-use Rattle.demands.specs.cases.RowCases.{Hold, Row, row, answered, recording, shows, draws, regs, down, up, codes, dots, with, panelWith, panel, held, missed}
+use Rattle.demands.specs.cases.RowCases.{Hold, Row, row, answered, recording, shows, draws, regs, down, up, codes, dots, with, panelWith, panel, doubted, held, missed}
 
 -- a record at 1,000 that changes only the last time and the half: registers, busy end, half before; bytes; number, byte, half afterwards
 abbrev keeps : Registers → ℕ → Half → List ℕ → ℕ → ℕ → Half → Row
@@ -16,7 +16,7 @@ keeps registers busy before bytes number byte after =
 -- Busy at width 8: free at the busy end, 1,000, and busy one before it. A status read is never ignored: bit 7 while busy, the address below it
 abbrev wholes : List Row
 wholes =
-    row (panel (down 8) 1_000 Empty 800) (instructAt 1_000 0x04) 0 0 14 (panel (regs (shows 9) 6 0 0 1 0 1 8 5) 1_071 Empty 1_000)
+    row (panel (down 8) 1_000 Empty 800) (instructAt 1_000 0x04) 0 0 14 (panel (doubted (regs (shows 9) 6 0 0 1 0 1 8 5)) 1_071 Empty 1_000)
     ∷ row (panel (down 8) 1_000 Empty 800) (readAt 1_000) 0 0x69 14 (panel (regs (shows 8) 6 0 1 1 0 1 8 5) 1_071 Empty 1_000)
     ∷ keeps (down 8) 1_001 Empty (instructAt 1_000 0x04) 3 0 Empty
     ∷ keeps (down 8) 1_001 Empty (instructAt 1_000 0x01) 3 0 Empty
@@ -59,9 +59,9 @@ firsts =
 abbrev seconds : List Row
 seconds =
     row (panel (down 4) 5_000 (held 0 0 8) 800) (instructAt 1_000 0x5f) 0 0 14 (panel (regs (shows 5) 6 0 1 1 0 1 4 5) 1_071 Empty 1_000)
-    ∷ row (panel (down 4) 5_000 (held 0 0 0) 800) (instructAt 1_000 0x20) 0 0 14 (panel (regs (shows 0) 0 0 1 1 0 1 4 5) 3_003 Empty 1_000)
+    ∷ row (panel (down 4) 5_000 (held 0 0 0) 800) (instructAt 1_000 0x20) 0 0 14 (panel (doubted (regs (shows 0) 0 0 1 1 0 1 4 5)) 3_003 Empty 1_000)
     ∷ row (panel (down 4) 5_000 (held 1 0 0xa) 800) (writeAt 1_000 0x5f) 0 0 14
-    (panelWith (regs (shows 8) 5 0 1 1 0 1 4 5) (with 9 0xa5 codes) dots 1_071 Empty 1_000)
+    (panelWith (doubted (regs (shows 8) 5 0 1 1 0 1 4 5)) (with 9 0xa5 codes) dots 1_071 Empty 1_000)
     ∷ row (panel (down 4) 900 (held 1 1 3) 800) (readAt 1_000) 0 0x30 14 (panel (regs (shows 8) 6 0 1 1 0 1 4 5) 1_071 Empty 1_000)
     ∷ row (panel (up 4) 5_000 (held 1 1 12) 800) (transferAt 3 1_000 0xff) 0 0xc0 14 (panel (regs (draws 23) 11 1 0 0 1 0 4 10) 1_071 Empty 1_000)
     ∷ keeps (down 4) 900 (held 0 1 12) (statusAt 1_000) 2 0xc0 Empty

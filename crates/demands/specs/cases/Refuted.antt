@@ -128,7 +128,7 @@ not-constant counts h =
     omega arith
 
 -- all records as taken: they add up, and after Clear at 100 the write at 200 was ignored
-pub not-all-taken : ¬ Counts (counting (λ log. recordsOf log ∷ replicate 7 0))
+pub not-all-taken : ¬ Counts (counting (λ log. recordsOf log ∷ replicate 8 0))
 unfolding answering
 not-all-taken h =
     let e : _≡_ {A = ℕ} 2 1 = h casePanel (instructAt 100 0x01 ++ writeAt 200 0x57) (proper (instructAt 100 0x01 ++ writeAt 200 0x57) refl) 0 (omega arith) in

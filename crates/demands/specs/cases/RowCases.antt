@@ -3,9 +3,10 @@
 use Prim.Native.Nat.{ℕ, zero, suc}
 use lib.Dec.{eqb}
 use mathlib.Core.Path.{_≡_}
-use mathlib.Core.Bool.{Bool}
+use mathlib.Core.Bool.{Bool, true, false}
 use mathlib.Core.List.{List, [], _∷_, _++_, map}
 use lib.ListN.{replicate}
+use Rattle.laws.specs.Pick.{pick}
 use Rattle.chip.specs.Address.{display, pattern}
 use Rattle.chip.specs.declared.address.Address.{Address}
 use Rattle.chip.specs.declared.address.Address.the-variants.{Display, Pattern}
@@ -56,7 +57,7 @@ draws n = Pattern (pattern n)
 abbrev bit : ℕ → Bool
 bit n = eqb n 1
 
--- registers of the chip with one line, in the paper's order: address; shift; I/D, S; D, C, B; width, 8 or 4; Function Set bits
+-- registers of the chip with one line, in the paper's order: address; shift; I/D, S; D, C, B; width, 8 or 4; Function Set bits. The next read is good
 abbrev pub regs : Address → ℕ → ℕ → ℕ → ℕ → ℕ → ℕ → ℕ → ℕ → Registers
 regs address shift up follow on cursor blink width function =
     record {
@@ -70,11 +71,12 @@ regs address shift up follow on cursor blink width function =
       blink = bit blink;
       eight = eqb width 8;
       function = function;
+      good = true;
     }
 
--- the same of another chip
-abbrev pub regsOf : ℕ → Registers → Registers
-regsOf chip r =
+-- registers with the chip, and with whether the next read is good, set anew
+abbrev regsWith : ℕ → Bool → Registers → Registers
+regsWith chip good r =
     record {
       chip = chip;
       address = r .address;
@@ -86,7 +88,15 @@ regsOf chip r =
       blink = r .blink;
       eight = r .eight;
       function = r .function;
+      good = good;
     }
+
+-- the same of another chip; and where the next read is not good
+abbrev pub regsOf : ℕ → Registers → Registers
+regsOf chip r = regsWith chip (r .good) r
+
+abbrev pub doubted : Registers → Registers
+doubted r = regsWith (r .chip) false r
 
 -- two settings in which every bit differs, at a width
 abbrev pub down : ℕ → Registers
@@ -95,15 +105,18 @@ down width = regs (shows 9) 6 0 1 1 0 1 width 5
 abbrev pub up : ℕ → Registers
 up width = regs (draws 22) 11 1 0 0 1 0 width 10
 
--- display memory of one line and of two, and pattern memory, with every place different; on one line the sixteen past the line are 20h
+-- display memory of a chip, and pattern memory, with every place different; on one line the sixteen places past the line are 20h
 abbrev firstLine : List ℕ
 firstLine = 0xf0 ∷ 0xe1 ∷ 0xd2 ∷ 0xc3 ∷ 0xb4 ∷ 0xa5 ∷ 0x96 ∷ 0x87 ∷ 0x78 ∷ 0x69 ∷ 0x5a ∷ 0x4b ∷ 0x3c ∷ 0x2d ∷ 0x1e ∷ 0x0f ∷ []
 
-abbrev pub codes : List ℕ
-codes = firstLine ++ replicate 16 0x20
+abbrev secondLine : List ℕ
+secondLine = 0x31 ∷ 0x42 ∷ 0x53 ∷ 0x64 ∷ 0x75 ∷ 0x86 ∷ 0x97 ∷ 0xa8 ∷ 0xb9 ∷ 0xca ∷ 0xdb ∷ 0xec ∷ 0xfd ∷ 0x0e ∷ 0x1f ∷ 0x20 ∷ []
 
-abbrev pub bothLines : List ℕ
-bothLines = firstLine ++ (0x31 ∷ 0x42 ∷ 0x53 ∷ 0x64 ∷ 0x75 ∷ 0x86 ∷ 0x97 ∷ 0xa8 ∷ 0xb9 ∷ 0xca ∷ 0xdb ∷ 0xec ∷ 0xfd ∷ 0x0e ∷ 0x1f ∷ 0x20 ∷ [])
+abbrev pub memoryOf : ℕ → List ℕ
+memoryOf chip = firstLine ++ pick (eqb chip 35) secondLine (replicate 16 0x20)
+
+abbrev pub codes : List ℕ
+codes = memoryOf 31
 
 abbrev pub dots : List ℕ
 dots =
@@ -127,13 +140,12 @@ panelWith registers display pattern busy half last =
       last = last;
     }
 
--- the same with the memories above
-abbrev pub panel : Registers → ℕ → Half → ℕ → Panel
-panel registers busy half last = panelWith registers codes dots busy half last
+-- the same of a chip, with the memories above; and of the chip with one line
+abbrev pub panelOn : ℕ → Registers → ℕ → Half → ℕ → Panel
+panelOn chip registers busy half last = panelWith (regsOf chip registers) (memoryOf chip) dots busy half last
 
--- and of the chip with two lines, with registers of its own
-abbrev pub panelOnTwo : Registers → ℕ → Half → ℕ → Panel
-panelOnTwo registers busy half last = panelWith (regsOf 35 registers) bothLines dots busy half last
+abbrev pub panel : Registers → ℕ → Half → ℕ → Panel
+panel registers busy half last = panelOn 31 registers busy half last
 
 -- what waits: a half that was held, and one that was ignored, with its RS and R/W
 abbrev pub held : ℕ → ℕ → ℕ → Half
@@ -147,7 +159,7 @@ abbrev pub blank : List ℕ
 blank = replicate 32 0x20
 
 abbrev pub afreshOf : ℕ → ℕ → ℕ → Panel
-afreshOf chip busy last = panelWith (regsOf chip (regs (shows 0) 0 1 0 0 0 0 8 0)) blank (replicate 32 0) busy Empty last
+afreshOf chip busy last = panelWith (regsOf chip (doubted (regs (shows 0) 0 1 0 0 0 0 8 0))) blank (replicate 32 0) busy Empty last
 
 abbrev pub afresh : ℕ → ℕ → Panel
 afresh busy last = afreshOf 31 busy last

@@ -10,9 +10,9 @@ use Rattle.mirror.specs.declared.half.Half.the-variants.{Empty}
 use Rattle.mirror.specs.declared.panel.Panel.{Panel}
 use Rattle.mirror.specs.declared.stream.Run.{Run}
 use Rattle.demands.specs.cases.Logs.{instructAt, writeAt, statusAt, readAt, resetAt, badRecord}
-use Rattle.demands.specs.cases.RowCases.{Hold, recording, shows, regs, with, panelWith, panel, down, held, blank, afresh}
+use Rattle.demands.specs.cases.RowCases.{Hold, recording, shows, regs, with, panelWith, panel, down, doubted, held, blank, afresh}
 
--- every answer from 0 to 7, on a fresh panel of the times 30,011 / 2,003 / 71
+-- every answer from 0 to 7, and 11, on a fresh panel of the times 30,011 / 2,003 / 71
 abbrev all : List ℕ
 all =
     -- width 4: taken, busy to 71
@@ -27,12 +27,12 @@ all =
     ++ statusAt 100 ++ statusAt 101
     -- 00h in two halves: held, none
     ++ instructAt 145 0x00 ++ instructAt 146 0x00
-    -- 41h written at 5, held and taken, busy to 218; the byte at 6 read, held and taken, busy to 290
+    -- 41h written at 5, held and taken, busy to 218; a read at 6, held and doubtful, busy to 290, after which the next read is good
     ++ writeAt 146 0x40 ++ writeAt 147 0x10 ++ readAt 218 ++ readAt 219
 
--- the counts of the answers 0 to 7, in order
+-- the counts of the answers 0, 11, and 1 to 7, in this order
 abbrev allCounts : List ℕ
-allCounts = 4 ∷ 6 ∷ 1 ∷ 2 ∷ 1 ∷ 1 ∷ 1 ∷ 1 ∷ []
+allCounts = 3 ∷ 1 ∷ 6 ∷ 1 ∷ 2 ∷ 1 ∷ 1 ∷ 1 ∷ 1 ∷ []
 
 abbrev allPanel : Panel
 allPanel = panelWith (regs (shows 7) 0 1 0 0 0 0 4 0) (with 5 0x41 blank) (replicate 32 0) 290 Empty 219
@@ -59,14 +59,14 @@ runs =
     ∷ runRow (afresh 0 0) (all ++ (65 ∷ 0 ∷ []) ++ resetAt 500 ++ replicate 90 0) allPanel allCounts 17 true false
     -- a run from a panel that is nowhere fresh
     ∷ runRow (panel (down 8) 900 Empty 800) (instructAt 1_000 0x04 ++ instructAt 1_070 0x04 ++ instructAt 999 0x04)
-    (panel (regs (shows 9) 6 0 0 1 0 1 8 5) 1_071 Empty 1_070) (1 ∷ 0 ∷ 0 ∷ 1 ∷ 0 ∷ 1 ∷ 0 ∷ 0 ∷ []) 3 false false
+    (panel (doubted (regs (shows 9) 6 0 0 1 0 1 8 5)) 1_071 Empty 1_070) (1 ∷ 0 ∷ 0 ∷ 0 ∷ 1 ∷ 0 ∷ 1 ∷ 0 ∷ 0 ∷ []) 3 false false
     -- refused: all counts 0 and not cut, though its log is; the number of records is read off the lengths
-    ∷ runRow unsound all unsound (replicate 8 0) 17 false true
-    ∷ runRow unsound (all ++ (12 ∷ [])) unsound (replicate 8 0) 17 false true
-    ∷ runRow unsound [] unsound (replicate 8 0) 0 false true
+    ∷ runRow unsound all unsound (replicate 9 0) 17 false true
+    ∷ runRow unsound (all ++ (12 ∷ [])) unsound (replicate 9 0) 17 false true
+    ∷ runRow unsound [] unsound (replicate 9 0) 0 false true
     -- an empty log, and one whose only byte is no record
-    ∷ runRow (afresh 0 0) [] (afresh 0 0) (replicate 8 0) 0 false false
-    ∷ runRow (afresh 0 0) (12 ∷ []) (afresh 0 0) (replicate 8 0) 0 true false
+    ∷ runRow (afresh 0 0) [] (afresh 0 0) (replicate 9 0) 0 false false
+    ∷ runRow (afresh 0 0) (12 ∷ []) (afresh 0 0) (replicate 9 0) 0 true false
     ∷ []
 
 pub runs-computed : Hold ran runs

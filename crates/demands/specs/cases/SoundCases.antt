@@ -8,14 +8,14 @@ use Rattle.mirror.specs.declared.half.Half.{Half}
 use Rattle.mirror.specs.declared.half.Half.the-variants.{Empty}
 use Rattle.mirror.specs.declared.panel.Panel.{Panel}
 use Rattle.chip.specs.declared.address.Address.{Address}
-use Rattle.demands.specs.cases.RowCases.{Hold, recording, shows, draws, regs, regsOf, down, up, codes, bothLines, dots, with, panelWith, panel, panelOnTwo, held, missed, afreshOf, afresh}
+use Rattle.demands.specs.cases.RowCases.{Hold, recording, shows, draws, regs, regsOf, down, up, codes, memoryOf, dots, with, panelWith, panel, panelOn, doubted, held, missed, afreshOf, afresh}
 
 -- a display memory of one line; an address on two lines
 abbrev stored : List ℕ → Panel
 stored display = panelWith (down 8) display dots 900 Empty 800
 
 abbrev atOnTwo : Address → Panel
-atOnTwo address = panelOnTwo (regs address 6 0 1 1 0 1 8 5) 900 Empty 800
+atOnTwo address = panelOn 35 (regs address 6 0 1 1 0 1 8 5) 900 Empty 800
 
 -- an address; a shift; Function Set bits; a pattern memory; a width and what waits at it; a busy end; a last time
 abbrev at : Address → Panel
@@ -55,16 +55,16 @@ clauses =
     ∷ (stored (with 31 0x00 codes), false)
     ∷ (stored (with 23 0xa0 codes), false)
     ∷ (stored (with 16 0x20 codes), true)
-    ∷ (panelWith (down 8) bothLines dots 900 Empty 800, false)
-    ∷ (panelOnTwo (down 8) 900 Empty 800, true)
+    ∷ (panelWith (down 8) (memoryOf 35) dots 900 Empty 800, false)
+    ∷ (panelOn 35 (down 8) 900 Empty 800, true)
     -- two lines have 32 display addresses, and one shift of 0 to 15
     ∷ (atOnTwo (shows 16), true)
     ∷ (atOnTwo (shows 31), true)
     ∷ (atOnTwo (shows 32), false)
     ∷ (atOnTwo (draws 31), true)
     ∷ (atOnTwo (draws 32), false)
-    ∷ (panelOnTwo (regs (shows 9) 15 0 1 1 0 1 8 5) 900 Empty 800, true)
-    ∷ (panelOnTwo (regs (shows 9) 16 0 1 1 0 1 8 5) 900 Empty 800, false)
+    ∷ (panelOn 35 (regs (shows 9) 15 0 1 1 0 1 8 5) 900 Empty 800, true)
+    ∷ (panelOn 35 (regs (shows 9) 16 0 1 1 0 1 8 5) 900 Empty 800, false)
     -- the address in its memory, the shift, the Function Set bits
     ∷ (at (shows 0), true)
     ∷ (at (shows 15), true)
@@ -99,6 +99,10 @@ clauses =
     ∷ (waits 8 (held 1 1 5), false)
     ∷ (waits 8 (missed 0 0), false)
     ∷ (waits 8 (missed 1 0), false)
+    -- where the next read is not good a read half may wait with any nibble (document 02, wish 2, names no refusal)
+    ∷ (panel (doubted (up 4)) 900 (held 1 1 0) 800, true)
+    ∷ (panel (doubted (up 4)) 900 (held 1 1 7) 800, true)
+    ∷ (panel (doubted (up 4)) 900 (held 1 1 16) 800, false)
     -- no status half marked ignored
     ∷ (waits 4 (missed 0 0), true)
     ∷ (waits 4 (missed 1 0), true)

@@ -1,4 +1,4 @@
--- THE TABLE OF STRIKING (document 01, "Note on striking"): what is left of a log when the records answered 3 to 7, completed status reads, and the first
+-- THE TABLE OF STRIKING (document 01, "Note on striking"; doubtful, document 02, wish 2): what is left of a log when the records answered 3 to 7, completed status reads, and the first
 -- halves of such pairs are struck.
 use Prim.Native.Nat.{ℕ}
 use mathlib.Core.Path.{refl}
@@ -25,10 +25,13 @@ strikes =
     ([], [])
     -- at width 8: ignored, back, bad, none and status are struck; what is taken stays, a reset too
     ∷ (instructAt 0 0x06 ++ instructAt 70 0x01 ++ statusAt 70 ++ instructAt 69 0x06 ++ badRecord ++ instructAt 71 0x00 ++ writeAt 71 0x41 ++ resetAt 90, instructAt 0 0x06 ++ writeAt 71 0x41 ++ resetAt 90)
+    -- a doubtful read counts as taken, and stays; the read after it, and one after an address set and an ignored write, is good with or without what is struck
+    ∷ (readAt 0 ++ statusAt 10 ++ readAt 71, readAt 0 ++ readAt 71)
+    ∷ (instructAt 0 0x80 ++ writeAt 70 0x41 ++ readAt 71, instructAt 0 0x80 ++ readAt 71)
     -- at width 4: a pair that is taken stays, with its first half, whatever is struck between
     ∷ (four ++ pair, four ++ pair)
     ∷ (four ++ instructAt 71 0x80 ++ badRecord ++ instructAt 70 0x50 ++ instructAt 72 0x50, four ++ pair)
-    ∷ (four ++ readAt 71 ++ readAt 72, four ++ readAt 71 ++ readAt 72)
+    ∷ (four ++ readAt 71 ++ badRecord ++ readAt 72, four ++ readAt 71 ++ readAt 72)
     -- an ignored pair, a torn one, one ignored and then torn, 00h and a status read go with both halves
     ∷ (four ++ instructAt 70 0x80 ++ instructAt 71 0x50 ++ pair, four ++ pair)
     ∷ (four ++ instructAt 71 0x80 ++ writeAt 71 0x50 ++ pair, four ++ pair)

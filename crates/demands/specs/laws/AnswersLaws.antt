@@ -5,6 +5,7 @@ use mathlib.Core.Bool.{true}
 use mathlib.Core.List.{List, [], _∷_}
 use lib.ListN.{replicate}
 use Rattle.log.specs.Frames.{frames}
+use Rattle.mirror.specs.Answer.{countPlaces}
 use Rattle.mirror.specs.Panel.{soundPanel}
 use Rattle.mirror.specs.Answers.{Proper}
 use Rattle.mirror.specs.laws.TableLaws.{answered-row}
@@ -44,4 +45,4 @@ of-engine p log e =
 pub of-run : (p : Panel) (log : List ℕ) → Proper p log → OfRun ours p log
 of-run p log h =
     let e = of-engine p log (h .sound) in
-    record { panel = e .panel ∙ same-panel p log h; counts = e .counts ∙ ap (countsOf (replicate 8 0)) (same-answers p log h) }
+    record { panel = e .panel ∙ same-panel p log h; counts = e .counts ∙ ap (countsOf (replicate countPlaces 0)) (same-answers p log h) }

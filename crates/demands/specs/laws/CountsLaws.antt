@@ -1,5 +1,5 @@
 -- The counts of a run: each is the number of records answered so, and together they are the number of records.
-use Prim.Native.Nat.{ℕ, _+_, _≤_, _<_}
+use Prim.Native.Nat.{ℕ, _+_, _-_, _≤_, _<_}
 use native.Mathlib.Omega.{arith}
 use native.Mathlib.Nat.{zero-add}
 use mathlib.Core.Path.{_≡_, refl, sym, ap, _∙_}
@@ -8,7 +8,7 @@ use mathlib.Core.List.{List, [], _∷_}
 use lib.ListN.{length, getD, set, replicate, length-set, length-drop, getD-replicate}
 use lib.Seq.{getD-set-same, getD-set-other}
 use lib.Dec.{ltb, eqb}
-use borrow.Author.Tests.{ltb-true, ltb-false, eqb-true, eqb-false}
+use borrow.Author.Tests.{ltb-true, ltb-false, eqb-true, eqb-false, ne-eqb}
 use Rattle.laws.specs.Pick.{pick}
 use Rattle.log.specs.Frame.{recordSize, timeOf, rsOf, rwOf, dataOf, isReset, cutAt, badAt, frameOf}
 use Rattle.log.specs.Frames.{frames, recordsOf}
@@ -17,7 +17,7 @@ use Rattle.log.specs.laws.FramesLaws.{AllRecords, frames-cut, frames-next, fram
 use Rattle.log.specs.laws.FrontLaws.{uncut-front}
 use Rattle.log.specs.declared.frame.Frame.{Frame}
 use Rattle.log.specs.declared.frame.Frame.the-variants as frame
-use Rattle.mirror.specs.Answer.{numberOf}
+use Rattle.mirror.specs.Answer.{numberOf, countPlaces, placeOf}
 use Rattle.mirror.specs.engine.Way.{wayOf}
 use Rattle.mirror.specs.Words.{joinedOf, free}
 use Rattle.mirror.specs.engine.Record.{transferred, answered}
@@ -37,39 +37,63 @@ use Rattle.demands.specs.Answers.{answersBy, countsOf, numbers, OfRun}
 use Rattle.demands.specs.laws.AnswersLaws.{of-engine, of-run}
 use Rattle.demands.specs.Rules.{occurrences, InMemory, Counts, CountsRecords, AddsUp}
 
--- EACH COUNT. One answer more
+-- EACH COUNT. The number whose count stands at a place
+abbrev numberAt : ℕ → ℕ
+numberAt k = pick (eqb k 0) 0 (pick (eqb k 1) 11 (k - 1))
+
+number-back : (n : ℕ) → placeOf n < countPlaces → numberAt (placeOf n) ≡ n
+number-back n h = by (eqb n 0) refl (eqb n 11) refl (ltb n 8) h
+  where
+    by : (a : Bool) → eqb n 0 ≡ a → (b : Bool) → eqb n 11 ≡ b → (c : Bool) → pick a 0 (pick b 1 (pick c (n + 1) countPlaces)) < countPlaces →
+        numberAt (pick a 0 (pick b 1 (pick c (n + 1) countPlaces))) ≡ n
+    by true e b f c l = sym (eqb-true n 0 e)
+    by false e true f c l = sym (eqb-true n 11 f)
+    by false e false f true l =
+        rw (ne-eqb (n + 1) 0 (λ i. omega (arith, i)), ne-eqb (n + 1) 1 (λ i. omega (arith, i, eqb-false n 0 e))) (omega arith)
+    by false e false f false l = absurd (omega (arith, l))
+
+-- so no two answers share one
+place-one : (m n : ℕ) → placeOf m < countPlaces → placeOf n < countPlaces → placeOf m ≡ placeOf n → m ≡ n
+place-one m n h k e = sym (number-back m h) ∙ ap numberAt e ∙ number-back n k
+
+-- one answer more
 tally-length : (counts : List ℕ) (a : Answer) → length (tallied counts a) ≡ length counts
 unfolding tallied
-tally-length counts a = by (ltb (numberOf a) 8)
-  where
-    by : (x : Bool) → length (pick x (set counts (numberOf a) (raised (getD counts (numberOf a) 0))) counts) ≡ length counts
-    by true = length-set counts (numberOf a) (raised (getD counts (numberOf a) 0))
-    by false = refl
-
-tally-at : (counts : List ℕ) (a : Answer) (n k : ℕ) → n < 8 → length counts ≡ 8 → getD counts n 0 ≡ capped k →
-    getD (tallied counts a) n 0 ≡ capped (pick (eqb (numberOf a) n) 1 0 + k)
-unfolding tallied
-tally-at counts a n k h l e = by (ltb (numberOf a) 8) refl (eqb (numberOf a) n) refl
+tally-length counts a = by (ltb m countPlaces)
   where
     m : ℕ
-    m = numberOf a
+    m = placeOf (numberOf a)
 
-    by : (x : Bool) → ltb m 8 ≡ x → (y : Bool) → eqb m n ≡ y →
-        getD (pick x (set counts m (raised (getD counts m 0))) counts) n 0 ≡ capped (pick y 1 0 + k)
+    by : (x : Bool) → length (pick x (set counts m (raised (getD counts m 0))) counts) ≡ length counts
+    by true = length-set counts m (raised (getD counts m 0))
+    by false = refl
+
+tally-at : (counts : List ℕ) (a : Answer) (n k : ℕ) → placeOf n < countPlaces → length counts ≡ countPlaces → getD counts (placeOf n) 0 ≡ capped k →
+    getD (tallied counts a) (placeOf n) 0 ≡ capped (pick (eqb (numberOf a) n) 1 0 + k)
+unfolding tallied
+tally-at counts a n k h l e = by (ltb m countPlaces) refl (eqb (numberOf a) n) refl
+  where
+    m : ℕ
+    m = placeOf (numberOf a)
+
+    by : (x : Bool) → ltb m countPlaces ≡ x → (y : Bool) → eqb (numberOf a) n ≡ y →
+        getD (pick x (set counts m (raised (getD counts m 0))) counts) (placeOf n) 0 ≡ capped (pick y 1 0 + k)
     by true f true g =
-        let i : m ≡ n = eqb-true m n g in
+        let i : m ≡ placeOf n = ap placeOf (eqb-true (numberOf a) n g) in
         let c : k + 1 ≡ 1 + k = omega arith in
         ap (λ j. getD (set counts m (raised (getD counts m 0))) j 0) (sym i)
-        ∙ getD-set-same counts m (raised (getD counts m 0)) 0 (omega (arith, ltb-true m 8 f))
+        ∙ getD-set-same counts m (raised (getD counts m 0)) 0 (omega (arith, ltb-true m countPlaces f))
         ∙ ap raised (ap (λ j. getD counts j 0) i ∙ e)
         ∙ raised-capped k
         ∙ ap capped c
-    by true f false g = getD-set-other counts m n (raised (getD counts m 0)) 0 (λ i. eqb-false m n g (sym i)) ∙ e ∙ ap capped (sym (zero-add k))
-    by false f true g = absurd (omega (arith, ltb-false m 8 f, eqb-true m n g))
+    by true f false g =
+        getD-set-other counts m (placeOf n) (raised (getD counts m 0)) 0 (λ i. eqb-false (numberOf a) n g (place-one (numberOf a) n (ltb-true m countPlaces f) h (sym i)))
+        ∙ e ∙ ap capped (sym (zero-add k))
+    by false f true g = absurd (omega (arith, ltb-false m countPlaces f, ap placeOf (eqb-true (numberOf a) n g), h))
     by false f false g = e ∙ ap capped (sym (zero-add k))
 
-count-at : (answers : List (Answered (List ℕ) Response)) (counts : List ℕ) (n k : ℕ) → n < 8 → length counts ≡ 8 → getD counts n 0 ≡ capped k →
-    getD (countsOf counts answers) n 0 ≡ capped (occurrences n (numbers answers) + k)
+count-at : (answers : List (Answered (List ℕ) Response)) (counts : List ℕ) (n k : ℕ) → placeOf n < countPlaces → length counts ≡ countPlaces → getD counts (placeOf n) 0 ≡ capped k →
+    getD (countsOf counts answers) (placeOf n) 0 ≡ capped (occurrences n (numbers answers) + k)
 count-at [] counts n k h l e = e ∙ ap capped (sym (zero-add k))
 count-at (a ∷ rest) counts n k h l e =
     let x = a .answer .answer in
@@ -77,18 +101,18 @@ count-at (a ∷ rest) counts n k h l e =
     let c : occurrences n (numbers rest) + (one + k) ≡ one + occurrences n (numbers rest) + k = omega arith in
     count-at rest (tallied counts x) n (one + k) h (tally-length counts x ∙ l) (tally-at counts x n k h l e) ∙ ap capped c
 
-each-count : (m : Mirror) (p : Panel) (log : List ℕ) → OfRun m p log → (n : ℕ) → n < 8 →
-    getD (runOf p log .counts) n 0 ≡ capped (occurrences n (numbers (answersBy m p log)))
+each-count : (m : Mirror) (p : Panel) (log : List ℕ) → OfRun m p log → (n : ℕ) → placeOf n < countPlaces →
+    getD (runOf p log .counts) (placeOf n) 0 ≡ capped (occurrences n (numbers (answersBy m p log)))
 each-count m p log r n h =
     let answers = answersBy m p log in
     let c : occurrences n (numbers answers) + 0 ≡ occurrences n (numbers answers) = omega arith in
-    ap (λ l. getD l n 0) (r .counts) ∙ count-at answers (replicate 8 0) n 0 h refl (getD-replicate 8 n 0 0 h) ∙ ap capped c
+    ap (λ l. getD l (placeOf n) 0) (r .counts) ∙ count-at answers (replicate countPlaces 0) n 0 h refl (getD-replicate countPlaces (placeOf n) 0 0 h) ∙ ap capped c
 
 -- COUNTS: each is the number of records that were answered so
 pub counts : Counts runOf
 counts p log h = each-count ours p log (of-run p log h)
 
--- TOGETHER. Every record of a log is answered 0 to 7
+-- TOGETHER. Every record of a log is answered with a number that has a count
 pick-counted : (z : Bool) (x y : Recorded) → Counted (x .answer) → Counted (y .answer) → Counted (pick z x y .answer)
 pick-counted true x y h k = h
 pick-counted false x y h k = k
@@ -112,13 +136,14 @@ uncut-record s u = rw u (by (badAt s) (isReset s))
     by false true = tt
     by false false = tt
 
--- how often each of the eight numbers stands among the answers, all together
+-- how often each of the nine numbers stands among the answers, all together
 abbrev occurring : List ℕ → ℕ
 occurring l =
-    occurrences 0 l + occurrences 1 l + occurrences 2 l + occurrences 3 l + occurrences 4 l + occurrences 5 l + occurrences 6 l + occurrences 7 l
+    occurrences 0 l + occurrences 11 l + occurrences 1 l + occurrences 2 l + occurrences 3 l + occurrences 4 l + occurrences 5 l + occurrences 6 l + occurrences 7 l
 
 one-more : (a : Answer) (l : List ℕ) → Counted a → occurring (numberOf a ∷ l) ≡ 1 + occurring l
 one-more say.Taken l h = omega arith
+one-more say.Doubtful l h = omega arith
 one-more say.Held l h = omega arith
 one-more say.Status l h = omega arith
 one-more say.Ignored l h = omega arith
@@ -170,12 +195,13 @@ adds-up p log s h =
     let l = numbers (answersBy engine p log) in
     let all : occurring l ≡ recordsOf log = occurring-all (frames log) p (frames-are-records log) in
     let few = few-records log in
-    let at : (n : ℕ) → n < 8 → occurrences n l ≤ recordsOf log → getD (runOf p log .counts) n 0 ≡ occurrences n l =
+    let at : (n : ℕ) → placeOf n < countPlaces → occurrences n l ≤ recordsOf log → getD (runOf p log .counts) (placeOf n) 0 ≡ occurrences n l =
     λ n k m. each-count engine p log (of-engine p log s) n k ∙ capped-small (occurrences n l) (omega (arith, m, h, few)) in
     omega (
       arith,
       all,
       at 0 (omega arith) (omega (arith, all)),
+      at 11 (omega arith) (omega (arith, all)),
       at 1 (omega arith) (omega (arith, all)),
       at 2 (omega arith) (omega (arith, all)),
       at 3 (omega arith) (omega (arith, all)),

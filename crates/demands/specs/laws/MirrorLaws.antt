@@ -27,7 +27,7 @@ use Rattle.striking.specs.laws.Instances.{through-laws}
 use Rattle.demands.specs.Mirrors.{Response, outOf, sortFor, settledPanel, machineOf}
 use Rattle.demands.specs.laws.EngineLaws.{engine}
 use Rattle.demands.specs.Replay.{carried}
-use Rattle.demands.specs.laws.Ways.{Drops, status, ignored, torn, nothing, Stands, back, bad, cut, Narrow, Fits, Goes, acts, drops, misses, begins, Came, stands, restarts, transfers, came}
+use Rattle.demands.specs.laws.Ways.{Acts, taken, doubtful, Drops, status, ignored, torn, nothing, Stands, back, bad, cut, Narrow, Fits, Goes, acts, drops, misses, begins, Came, stands, restarts, transfers, came}
 
 -- our mirror on records that are parsed already
 abbrev parsed : Machine Panel Frame Response
@@ -87,10 +87,12 @@ live-fits false (Ignored a b) reads f = absurd f
 live-fits false (Waiting a b nibble) reads f = refl
 
 -- a record carried out: all three are then one
-taken-turn : (p k s : Panel) (f : Frame) (time : ℕ) (sheet : Sheet) (span byte used : ℕ) →
-    answered f k ≡ recorded (done time sheet span p) say.Taken byte used →
-    Turn parsed Beside f (outOf (recorded (done time sheet span p) say.Taken byte used)) k s
-taken-turn p k s f time sheet span byte used e =
+taken-turn : (p k s : Panel) (f : Frame) (time : ℕ) (sheet : Sheet) (span : ℕ) (a : Answer) (byte used : ℕ) → Acts a →
+    answered f k ≡ recorded (done time sheet span p) a byte used →
+    Turn parsed Beside f (outOf (recorded (done time sheet span p) a byte used)) k s
+taken-turn p k s f time sheet span a byte used taken e =
+    record { follows = rw e (refl, refl, beside (done time sheet span p) time time (le-refl time) (le-refl time) (λ z. refl)) }
+taken-turn p k s f time sheet span a byte used doubtful e =
     record { follows = rw e (refl, refl, beside (done time sheet span p) time time (le-refl time) (le-refl time) (λ z. refl)) }
 
 drops-sort : {a : Answer} → Drops a → sortFor a ≡ sorted goes strikes
@@ -110,8 +112,8 @@ no-width h e z = absurd (true≢false (sym z ∙ e))
 transfer-turn : (p : Panel) (l l₁ time : ℕ) (rs reads : Bool) (bus : ℕ) (r : Recorded) → l ≤ p .last → l₁ ≤ p .last → p .last ≤ time →
     transferred time rs reads bus p ≡ r → Goes p time rs reads bus (p .sheet .registers .eight) (p .half) r →
     Turn parsed Beside (frame.Transfer time rs reads bus) (outOf r) (holding l (live (p .half)) p) (holding l₁ Empty p)
-transfer-turn p l l₁ time rs reads bus r x y z q (acts e span byte i s f) =
-    taken-turn p (holding l (live (p .half)) p) (holding l₁ Empty p) (frame.Transfer time rs reads bus) time (carried e (p .sheet)) span byte 14
+transfer-turn p l l₁ time rs reads bus r x y z q (acts a o e span byte i s f) =
+    taken-turn p (holding l (live (p .half)) p) (holding l₁ Empty p) (frame.Transfer time rs reads bus) time (carried e (p .sheet)) span a byte 14 o
     (answered-as p (live (p .half)) l time rs reads bus (live-fits (p .sheet .registers .eight) (p .half) reads f) (omega arith) ∙ q)
 transfer-turn p l l₁ time rs reads bus r x y z q (drops a byte d) =
     record { follows = rw (drops-sort d) (beside (holding time Empty p) l₁ l₁ (omega arith) (omega arith) (λ e. refl)) }
@@ -124,7 +126,7 @@ transfer-turn p l l₁ time rs reads bus r x y z q (begins nibble byte n w v) =
 turn : (w k s : Panel) (f : Frame) (r : Recorded) → Beside w k s → Came w f r → Turn parsed Beside f (outOf r) k s
 turn w k s f r (beside p l l₁ x y n) (stands g a used d) = record { follows = rw (stands-sort d) (beside p l l₁ x y n) }
 turn w k s f r (beside p l l₁ x y n) (restarts time z) =
-    taken-turn p (holding l (live (p .half)) p) (holding l₁ Empty p) (frame.Reset time) time (freshSheet (p .sheet .registers .chip)) (p .times .reset) 0 12
+    taken-turn p (holding l (live (p .half)) p) (holding l₁ Empty p) (frame.Reset time) time (freshSheet (p .sheet .registers .chip)) (p .times .reset) say.Taken 0 12 taken
     (reset-as p (live (p .half)) l time (omega arith))
 turn w k s f r (beside p l l₁ x y n) (transfers time rs reads bus o z q g) = transfer-turn p l l₁ time rs reads bus o x y z q g
 
@@ -143,6 +145,7 @@ ends w k s (beside p l l₁ x y n) = refl
 
 keeper-stays : (a : Answer) → KeeperStays (sortFor a .own) (sortFor a .others)
 keeper-stays say.Taken = refl
+keeper-stays say.Doubtful = refl
 keeper-stays say.Held = tt
 keeper-stays say.Status = tt
 keeper-stays say.Ignored = tt

@@ -25,7 +25,7 @@ use Rattle.demands.specs.laws.EngineLaws.{engine, same-answers, same-pan
 use Rattle.demands.specs.Answers.{answersBy, panelBy}
 use Rattle.demands.specs.laws.AnswersLaws.{of-run}
 use Rattle.demands.specs.Replay.{Entry, carried, carriedAll, ReplayHalf, none, held, joinedWith, entryOf, entriesBy, firstAfter, takenFrom, takenOf, Replays, AllSomething}
-use Rattle.demands.specs.laws.Ways.{status, ignored, torn, nothing, back, bad, cut, Narrow, Fits, Goes, acts, drops, misses, begins, Came, stands, restarts, transfers, came}
+use Rattle.demands.specs.laws.Ways.{taken, doubtful, status, ignored, torn, nothing, back, bad, cut, Narrow, Fits, Goes, acts, drops, misses, begins, Came, stands, restarts, transfers, came}
 
 -- the half that waits in the panel is the one read off the answers
 data Agree : ReplayHalf → Bool → Half → Type 0 where
@@ -55,7 +55,10 @@ record Keeps (first : ReplayHalf) (p : Panel) (f : Frame) (r : Recorded) : Type 
 
 transfer-keeps : (first : ReplayHalf) (p : Panel) (time : ℕ) (rs reads : Bool) (bus : ℕ) (eight : Bool) (h : Half) (r : Recorded) →
     eight ≡ p .sheet .registers .eight → Agree first eight h → Goes p time rs reads bus eight h r → Keeps first p (frame.Transfer time rs reads bus) r
-transfer-keeps first p time rs reads bus eight h r q g (acts e span byte i s f) =
+transfer-keeps first p time rs reads bus eight h r q g (acts a taken e span byte i s f) =
+    let same = entry-same first eight h rs reads bus g f ∙ i in
+    record { sheet = rw same refl; agree = no-half (carried e (p .sheet) .registers .eight); something = rw same (s, tt) }
+transfer-keeps first p time rs reads bus eight h r q g (acts a doubtful e span byte i s f) =
     let same = entry-same first eight h rs reads bus g f ∙ i in
     record { sheet = rw same refl; agree = no-half (carried e (p .sheet) .registers .eight); something = rw same (s, tt) }
 transfer-keeps first p time rs reads bus eight h r q g (drops a byte status) =

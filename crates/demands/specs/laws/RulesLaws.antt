@@ -14,8 +14,8 @@ use Rattle.chip.specs.declared.sheet.Sheet.{Sheet}
 use Rattle.mirror.specs.Answer.{numberOf}
 use Rattle.mirror.specs.Panel.{timeEnd, halfFits, soundPanel}
 use Rattle.mirror.specs.engine.Way.{Way, finishOf, wholeOf, firstOf, secondOf, wayOf}
-use Rattle.mirror.specs.Words.{joinedOf, free}
-use Rattle.mirror.specs.engine.Record.{recorded, went, transferred, answered}
+use Rattle.mirror.specs.Words.{joinedOf, free, isGood}
+use Rattle.mirror.specs.engine.Record.{recorded, readAs, went, transferred, answered}
 use Rattle.mirror.specs.declared.answer.Answer.the-variants as say
 use Rattle.mirror.specs.declared.half.Half.{Half}
 use Rattle.mirror.specs.declared.half.Half.the-variants.{Empty, Ignored, Waiting}
@@ -64,10 +64,15 @@ module _ (time : ℕ) (r w : Bool) (bus byte : ℕ) (p : Panel) where
       by true = refl
       by false = refl
 
+  -- nor does a data read that is carried out
+  read-heard : (good : Bool) → eqb (numberOf (readAs good)) 3 ≡ false
+  read-heard true = refl
+  read-heard false = refl
+
   whole-ignores : (z rs reads : Bool) (b : ℕ) → (rs || not reads) ≡ true → ignores (wholeOf z rs reads b) ≡ not z
   whole-ignores true rs false b u = finish-heard rs b
   whole-ignores false rs false b u = refl
-  whole-ignores true true true b u = refl
+  whole-ignores true true true b u = read-heard (isGood p)
   whole-ignores false true true b u = refl
   whole-ignores z false true b u = absurd (false≢true u)
 
@@ -80,7 +85,7 @@ module _ (time : ℕ) (r w : Bool) (bus byte : ℕ) (p : Panel) where
 
   second-heard : (rs reads : Bool) (b : ℕ) → ignores (secondOf rs reads b) ≡ false
   second-heard rs false b = finish-heard rs b
-  second-heard true true b = refl
+  second-heard true true b = read-heard (isGood p)
   second-heard false true b = refl
 
   -- a second half that matches goes its way

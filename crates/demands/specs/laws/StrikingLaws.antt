@@ -1,6 +1,5 @@
 -- Demand 3, second half, holds of our mirror.
 use Prim.Native.Nat.{ℕ, _<_}
-use native.Mathlib.Omega.{arith}
 use mathlib.Core.Path.{_≡_, refl, sym, ap, _∙_, subst}
 use mathlib.Core.Bool.{Bool, true, false}
 use mathlib.Core.List.{List, [], _∷_, append-nil, Sublistᴰ, Sublistᴰ·slnil, Sublistᴰ·cons, Sublistᴰ·cons-cons}
@@ -38,6 +37,7 @@ module _ (bytes : List ℕ) (byte : ℕ) (left all : List (Answered (List ℕ) R
   taken-one : (a : Answer) (later : Bool) → takens left ≡ takens all →
       takens (pick (remains (sortFor a .own) later) (told bytes a byte ∷ left) left) ≡ takens (told bytes a byte ∷ all)
   taken-one say.Taken later h = ap (λ l. told bytes say.Taken byte ∷ l) h
+  taken-one say.Doubtful later h = ap (λ l. told bytes say.Doubtful byte ∷ l) h
   taken-one say.Held true h = h
   taken-one say.Held false h = h
   taken-one say.Status later h = h
@@ -50,8 +50,9 @@ module _ (bytes : List ℕ) (byte : ℕ) (left all : List (Answered (List ℕ) R
   taken-one say.Unsound later h = h
 
   held-one : (a : Answer) (later : Bool) → TakenOrHeld left → TakenOrHeld (pick (remains (sortFor a .own) later) (told bytes a byte ∷ left) left)
-  held-one say.Taken later h = (omega arith, h)
-  held-one say.Held true h = (omega arith, h)
+  held-one say.Taken later h = (refl, h)
+  held-one say.Doubtful later h = (refl, h)
+  held-one say.Held true h = (refl, h)
   held-one say.Held false h = h
   held-one say.Status later h = h
   held-one say.Ignored later h = h

@@ -21,6 +21,7 @@ use Rattle.chip.proofs.address.PatternAddress.moved as pattern-address·moved
 use Rattle.chip.proofs.address.PatternAddress.read as pattern-address·read
 use Rattle.chip.proofs.address.PatternAddress.write as pattern-address·write
 use Rattle.chip.proofs.address.Address.number as address·number
+use Rattle.chip.proofs.address.Address.in_display as address·in-display
 use Rattle.chip.proofs.address.Address.moved as address·moved
 use Rattle.chip.proofs.instruction.decode as instruction·decode
 use Rattle.chip.proofs.registers.Registers.fresh as registers·fresh
@@ -32,6 +33,7 @@ use Rattle.chip.proofs.registers.Registers.step as registers·step
 use Rattle.chip.proofs.registers.Registers.shift_by_one as registers·shift-by-one
 use Rattle.chip.proofs.registers.Registers.function_set as registers·function-set
 use Rattle.chip.proofs.registers.Registers.set as registers·set
+use Rattle.chip.proofs.registers.Registers.next_good as registers·next-good
 use Rattle.chip.proofs.registers.Registers.act as registers·act
 use Rattle.chip.proofs.registers.Registers.obey as registers·obey
 use Rattle.chip.proofs.registers.Registers.here as registers·here
@@ -95,6 +97,10 @@ module _ {M : Type 1} (𝓤 : URA M) (H : Heap 𝓤) (A : Atoms 𝓤) (mem : Mem
   pub address-number : DeterminesAnswer 𝓤 address·number.ended (address·number.clauses 𝓤 H A mem run)
   address-number = equation 𝓤 _ _ _ (λ κs a g r e. refl)
 
+  -- chip::address::Address::in_display: r ≡ inDisplay self
+  pub address-in-display : DeterminesAnswer 𝓤 address·in-display.ended (address·in-display.clauses 𝓤 H A mem run)
+  address-in-display = equation 𝓤 _ _ _ (λ κs a g r e. refl)
+
   -- chip::address::Address::moved: r ≡ movedAddress chip up self
   pub address-moved : DeterminesAnswer 𝓤 address·moved.ended (address·moved.clauses 𝓤 H A mem run)
   address-moved = equation 𝓤 _ _ _ (λ κs a g r e. refl)
@@ -138,6 +144,10 @@ module _ {M : Type 1} (𝓤 : URA M) (H : Heap 𝓤) (A : Atoms 𝓤) (mem : Mem
   -- chip::registers::Registers::set: Steps (addressSet address) self r
   pub registers-set : DeterminesAnswer 𝓤 registers·set.ended (registers·set.clauses 𝓤 H A mem run)
   registers-set = answer 𝓤 _ _ _ (λ κs a g r e. refl) (λ κs a r s e f p q. registers-of (p [] [] ∙ sym (q [] [])))
+
+  -- chip::registers::Registers::next_good: Steps (nextGood good) self r
+  pub registers-next-good : DeterminesAnswer 𝓤 registers·next-good.ended (registers·next-good.clauses 𝓤 H A mem run)
+  registers-next-good = answer 𝓤 _ _ _ (λ κs a g r e. refl) (λ κs a r s e f p q. registers-of (p [] [] ∙ sym (q [] [])))
 
   -- chip::registers::Registers::act: StepsDisplay (acted i) self (now (display .entry)) r (now (display .exit))
   pub registers-act : Determines 𝓤 registers·act.ended (registers·act.clauses 𝓤 H A mem run) (λ κs e. now (e .1 .1 .0))

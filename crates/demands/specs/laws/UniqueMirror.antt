@@ -7,7 +7,10 @@ use prog.Memory.{Memory}
 use prog.Routine.{Routine}
 use ghost.Atoms.{Atoms}
 use contract.Monad.{Fun}
+use denote.Ref.{now}
 use Rattle.mirror.proofs.answer.Answer.number as answer·number
+use Rattle.mirror.proofs.answer.Answer.clocked as answer·clocked
+use Rattle.mirror.proofs.answer.Answer.place as answer·place
 use Rattle.mirror.proofs.half.Half.fits as half·fits
 use Rattle.mirror.proofs.panel.Panel.fresh as panel·fresh
 use Rattle.mirror.proofs.panel.Panel.sound as panel·sound
@@ -23,12 +26,21 @@ use Rattle.mirror.proofs.stream.Stream.panel as stream·panel
 use Rattle.mirror.proofs.stream.Stream.number as stream·number
 use Rattle.mirror.proofs.stream.Stream.front as stream·front
 use Rattle.mirror.proofs.count.raise as count·raise
-use Rattle.demands.specs.Unique.{DeterminesAnswer, answer, equation}
+use Rattle.mirror.proofs.count.tally as count·tally
+use Rattle.demands.specs.Unique.{Determines, DeterminesAnswer, answer, equation}
 
 module _ {M : Type 1} (𝓤 : URA M) (H : Heap 𝓤) (A : Atoms 𝓤) (mem : Memory → SProp 𝓤) (run : Routine → Fun 𝓤) where
   -- mirror::answer::Answer::number: r ≡ numberOf self
   pub answer-number : DeterminesAnswer 𝓤 answer·number.ended (answer·number.clauses 𝓤 H A mem run)
   answer-number = equation 𝓤 _ _ _ (λ κs a g r e. refl)
+
+  -- mirror::answer::Answer::clocked: r ≡ clocked (numberOf self)
+  pub answer-clocked : DeterminesAnswer 𝓤 answer·clocked.ended (answer·clocked.clauses 𝓤 H A mem run)
+  answer-clocked = equation 𝓤 _ _ _ (λ κs a g r e. refl)
+
+  -- mirror::answer::Answer::place: r ≡ placeOf (numberOf self)
+  pub answer-place : DeterminesAnswer 𝓤 answer·place.ended (answer·place.clauses 𝓤 H A mem run)
+  answer-place = equation 𝓤 _ _ _ (λ κs a g r e. refl)
 
   -- mirror::half::Half::fits: r ≡ halfFits eight self
   pub half-fits : DeterminesAnswer 𝓤 half·fits.ended (half·fits.clauses 𝓤 H A mem run)
@@ -69,6 +81,10 @@ module _ {M : Type 1} (𝓤 : URA M) (H : Heap 𝓤) (A : Atoms 𝓤) (mem : Mem
   -- mirror::count::raise: r ≡ raised n
   pub raise : DeterminesAnswer 𝓤 count·raise.ended (count·raise.clauses 𝓤 H A mem run)
   raise = equation 𝓤 _ _ _ (λ κs a g r e. refl)
+
+  -- mirror::count::tally: now (counts .exit) ≡ tallied (now (counts .entry)) answer
+  pub tally : Determines 𝓤 count·tally.ended (count·tally.clauses 𝓤 H A mem run) (λ κs e. now (e .0))
+  tally = record { Says = _; stated = λ κs a g r e. refl; one = λ κs a r s e f p q. (refl, p ∙ sym q) }
 
   -- mirror::stream::Reply::refusal: r ≡ endNumber self
   pub reply-refusal : DeterminesAnswer 𝓤 reply·refusal.ended (reply·refusal.clauses 𝓤 H A mem run)

@@ -10,8 +10,8 @@ use Rattle.log.specs.declared.frame.Frame.{Frame}
 use Rattle.log.specs.declared.frame.Frame.the-variants as frame
 use Rattle.chip.specs.Sheet.{freshSheet}
 use Rattle.mirror.specs.engine.Way.{Way, finishOf, wholeOf, firstOf, secondOf, unlessTorn, wayOf}
-use Rattle.mirror.specs.Words.{nibbleOf, joinedOf, free, statusOf, hereOf, holding, done, high}
-use Rattle.mirror.specs.engine.Record.{recorded, spanOf, went, transferred, answered}
+use Rattle.mirror.specs.Words.{nibbleOf, joinedOf, free, statusOf, isGood, readByte, holding, done, high}
+use Rattle.mirror.specs.engine.Record.{recorded, spanOf, readAs, went, transferred, answered}
 use Rattle.mirror.specs.declared.answer.Answer.{Answer}
 use Rattle.mirror.specs.declared.answer.Answer.the-variants as say
 use Rattle.mirror.specs.declared.half.Half.{Half}
@@ -19,6 +19,11 @@ use Rattle.mirror.specs.declared.half.Half.the-variants.{Empty, Ignored, Waitin
 use Rattle.mirror.specs.declared.panel.Panel.{Panel}
 use Rattle.mirror.specs.declared.record.Recorded.{Recorded}
 use Rattle.demands.specs.Replay.{Entry, instruct, write, read, reset, carried, entryOf, Something}
+
+-- the answers to what is carried out
+pub data Acts : Answer → Type 0 where
+  taken : Acts say.Taken
+  doubtful : Acts say.Doubtful
 
 -- the answers after which no half waits and nothing is carried out
 pub data Drops : Answer → Type 0 where
@@ -47,8 +52,8 @@ Fits false (Waiting r w nibble) reads = w ≡ reads
 -- a transfer on the panel p, at a width and with a half waiting
 pub data Goes (p : Panel) (time : ℕ) (rs reads : Bool) (bus : ℕ) (eight : Bool) (h : Half) : Recorded → Type 0 where
   -- carried out, whole or as a pair
-  acts : (e : Entry) (span byte : ℕ) → entryOf rs reads (joinedOf eight h bus) ≡ e ∷ [] → Something e → Fits eight h reads →
-      Goes p time rs reads bus eight h (recorded (done time (carried e (p .sheet)) span p) say.Taken byte 14)
+  acts : (a : Answer) → Acts a → (e : Entry) (span byte : ℕ) → entryOf rs reads (joinedOf eight h bus) ≡ e ∷ [] → Something e → Fits eight h reads →
+      Goes p time rs reads bus eight h (recorded (done time (carried e (p .sheet)) span p) a byte 14)
   -- nothing is carried out, and no half waits
   drops : (a : Answer) (byte : ℕ) → Drops a → Goes p time rs reads bus eight h (recorded (holding time Empty p) a byte 14)
   -- the first half of a pair, ignored or held
@@ -65,15 +70,20 @@ module _ (p : Panel) (time : ℕ) (rs : Bool) (bus : ℕ) (eight : Bool) (h : Ha
     where
       by : (rs z : Bool) → eqb byte 0 ≡ z →
           Goes p time rs false bus eight h (went (pick rs Way.Write (pick z Way.Nothing Way.Obey)) time rs false bus byte p)
-      by true z e = acts (write byte) (p .times .short) 0 refl tt f
+      by true z e = acts say.Taken taken (write byte) (p .times .short) 0 refl tt f
       by false true e = drops say.Nothing 0 nothing
-      by false false e = acts (instruct byte) (spanOf byte p) 0 refl (eqb-false byte 0 e) f
+      by false false e = acts say.Taken taken (instruct byte) (spanOf byte p) 0 refl (eqb-false byte 0 e) f
+
+-- a data read that is carried out, good or not
+read-acts : (good : Bool) → Acts (readAs good)
+read-acts true = taken
+read-acts false = doubtful
 
 whole-goes : (p : Panel) (time : ℕ) (rs reads : Bool) (bus : ℕ) (h : Half) (z : Bool) → h ≡ Empty →
     Goes p time rs reads bus true h (went (wholeOf z rs reads bus) time rs reads bus bus p)
 whole-goes p time rs false bus h true n = finish-goes p time rs bus true h n
 whole-goes p time rs false bus h false n = drops say.Ignored 0 ignored
-whole-goes p time true true bus h true n = acts read (p .times .short) (hereOf p) refl tt n
+whole-goes p time true true bus h true n = acts (readAs (isGood p)) (read-acts (isGood p)) read (p .times .short) (readByte p) refl tt n
 whole-goes p time true true bus h false n = drops say.Ignored 0 ignored
 whole-goes p time false true bus h z n = drops say.Status (statusOf time p) status
 
@@ -81,7 +91,7 @@ first-goes : (p : Panel) (time : ℕ) (rs reads : Bool) (bus byte : ℕ) (z : Bo
     Goes p time rs reads bus false Empty (went (firstOf z rs reads) time rs reads bus byte p)
 first-goes p time rs false bus byte true = begins (bus / 16) 0 refl refl (λ e. refl)
 first-goes p time rs false bus byte false = misses refl refl
-first-goes p time true true bus byte true = begins (hereOf p % 16) (high (hereOf p)) refl refl (λ e. absurd (true≢false e))
+first-goes p time true true bus byte true = begins (readByte p % 16) (high (readByte p)) refl refl (λ e. absurd (true≢false e))
 first-goes p time true true bus byte false = misses refl refl
 first-goes p time false true bus byte z = begins (statusOf time p % 16) (high (statusOf time p)) refl refl (λ e. absurd (true≢false e))
 
@@ -89,7 +99,7 @@ second-goes : (p : Panel) (time : ℕ) (rs reads : Bool) (bus : ℕ) (r w : Bool
     let byte = joinedOf false (Waiting r w nibble) bus in
     Goes p time rs reads bus false (Waiting r w nibble) (went (secondOf rs reads byte) time rs reads bus byte p)
 second-goes p time rs false bus r w nibble e = finish-goes p time rs bus false (Waiting r w nibble) e
-second-goes p time true true bus r w nibble e = acts read (p .times .short) (nibbleOf (p .half) * 16) refl tt e
+second-goes p time true true bus r w nibble e = acts (readAs (isGood p)) (read-acts (isGood p)) read (p .times .short) (pick (isGood p) (nibbleOf (p .half) * 16) 0) refl tt e
 second-goes p time false true bus r w nibble e = drops say.Status (nibbleOf (p .half) * 16) status
 
 beq-same : (x y : Bool) → not (Bool·beq x y) ≡ false → x ≡ y

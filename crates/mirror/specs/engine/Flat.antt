@@ -41,8 +41,8 @@ modesOf r =
     }
 
 -- the registers put together again
-abbrev pub registersWith : ℕ → Address → ℕ → Modes → Registers
-registersWith chip a shift m =
+abbrev pub registersWith : ℕ → Address → ℕ → Bool → Modes → Registers
+registersWith chip a shift good m =
     record {
       chip = chip;
       address = a;
@@ -54,4 +54,5 @@ registersWith chip a shift m =
       blink = m .blink;
       eight = m .eight;
       function = m .function;
+      good = good;
     }

@@ -26,7 +26,7 @@ abbrev pub addressAt : Live → Address
 addressAt k = addressOf (k .patterned) (k .display) (k .pattern)
 
 abbrev pub registersOf : Live → Registers
-registersOf k = registersWith (k .chip) (addressAt k) (k .shift) (k .modes)
+registersOf k = registersWith (k .chip) (addressAt k) (k .shift) (k .good) (k .modes)
 
 -- the half that waits: none, one that the busy chip ignored, or one that counts
 abbrev pub halfFrom : ℕ → Bool → Bool → ℕ → Half
@@ -74,10 +74,10 @@ Tears time k r = Passes time say.Torn 0 14 k r
 abbrev pub Shows : ℕ → Live → ℕ → Type 0
 Shows time k r = (t : Times) (d p : List ℕ) → r ≡ statusOf time (panelOf t k d p)
 
-abbrev pub Does : Registers → ℕ → ℕ → ℕ → ℕ → Live → Live → Type 0
-Does registers time span byte used k r =
+abbrev pub Does : Registers → ℕ → ℕ → Answer → ℕ → ℕ → Live → Live → Type 0
+Does registers time span answer byte used k r =
     (t : Times) (d p : List ℕ) →
-    recordedOf t r d p ≡ recorded (done time (sheetOf registers d p) span (panelOf t k d p)) say.Taken byte used
+    recordedOf t r d p ≡ recorded (done time (sheetOf registers d p) span (panelOf t k d p)) answer byte used
 
 -- the totals of a state, its memories and the counts
 abbrev pub totalsOf : Times → Live → List ℕ → List ℕ → List ℕ → ℕ → Totals

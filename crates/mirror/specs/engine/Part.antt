@@ -5,7 +5,7 @@ use lib.ListN.{getD, set}
 use lib.Dec.{ltb}
 use Rattle.laws.specs.Pick.{pick}
 use Rattle.laws.specs.engine.Turns.{turns}
-use Rattle.mirror.specs.Answer.{numberOf}
+use Rattle.mirror.specs.Answer.{numberOf, countPlaces, placeOf}
 use Rattle.mirror.specs.Run.{mostCount, raised}
 use Rattle.mirror.specs.declared.answer.Answer.{Answer}
 
@@ -25,12 +25,12 @@ upTo n [] = []
 upTo zero (k ∷ part) = 0 ∷ upTo zero part
 upTo (suc n) (k ∷ part) = k ∷ upTo n part
 
--- one more of the answers from 0 to 7
+-- one more of an answer, at its place
 unfoldable pub bumped : List ℕ → Answer → List ℕ
 bumped part answer =
-    let n = numberOf answer in
-    pick (ltb n 8) (set part n (getD part n 0 + 1)) part
+    let n = placeOf (numberOf answer) in
+    pick (ltb n countPlaces) (set part n (getD part n 0 + 1)) part
 
 -- there is room for one more
 abbrev pub Room : List ℕ → Answer → Type 0
-Room part answer = getD part (numberOf answer) 0 < mostCount
+Room part answer = getD part (placeOf (numberOf answer)) 0 < mostCount

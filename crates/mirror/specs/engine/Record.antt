@@ -8,7 +8,7 @@ use Rattle.log.specs.declared.frame.Frame.the-variants as frame
 use Rattle.chip.specs.Sheet.{freshSheet}
 use Rattle.chip.specs.Step.{obeyed, written, passed}
 use Rattle.mirror.specs.engine.Way.{Way, wayOf}
-use Rattle.mirror.specs.Words.{free, statusOf, hereOf, holding, done, high, nibbleOf, joinedOf}
+use Rattle.mirror.specs.Words.{free, statusOf, isGood, readByte, holding, done, high, nibbleOf, joinedOf}
 use Rattle.mirror.specs.declared.answer.Answer.{Answer}
 use Rattle.mirror.specs.declared.answer.Answer.the-variants as say
 use Rattle.mirror.specs.declared.half.Half.the-variants.{Empty, Ignored, Waiting}
@@ -22,6 +22,10 @@ recorded p answer byte used = record { panel = p; answer = answer; byte = byte; 
 abbrev pub spanOf : ℕ → Panel → ℕ
 spanOf code p = pick (ltb code 4) (p .times .long) (p .times .short)
 
+-- a data read that is carried out is taken where it is good, and doubtful where it is not
+abbrev pub readAs : Bool → Answer
+readAs good = pick good say.Taken say.Doubtful
+
 -- what each way comes to
 abbrev pub went : Way → ℕ → Bool → Bool → ℕ → ℕ → Panel → Recorded
 went Way.Torn time rs reads bus byte p = recorded (holding time Empty p) say.Torn 0 14
@@ -30,13 +34,13 @@ went Way.Missed time rs reads bus byte p = recorded (holding time (Ignored rs re
 went Way.Nothing time rs reads bus byte p = recorded (holding time Empty p) say.Nothing 0 14
 went Way.HoldStatus time rs reads bus byte p =
     recorded (holding time (Waiting rs reads (statusOf time p % 16)) p) say.Held (high (statusOf time p)) 14
-went Way.HoldRead time rs reads bus byte p = recorded (holding time (Waiting rs reads (hereOf p % 16)) p) say.Held (high (hereOf p)) 14
+went Way.HoldRead time rs reads bus byte p = recorded (holding time (Waiting rs reads (readByte p % 16)) p) say.Held (high (readByte p)) 14
 went Way.HoldWrite time rs reads bus byte p = recorded (holding time (Waiting rs reads (bus / 16)) p) say.Held 0 14
 went Way.Status time rs reads bus byte p = recorded (holding time Empty p) say.Status (statusOf time p) 14
 went Way.StatusEnd time rs reads bus byte p = recorded (holding time Empty p) say.Status (nibbleOf (p .half) * 16) 14
-went Way.Read time rs reads bus byte p = recorded (done time (passed (p .sheet)) (p .times .short) p) say.Taken (hereOf p) 14
+went Way.Read time rs reads bus byte p = recorded (done time (passed (p .sheet)) (p .times .short) p) (readAs (isGood p)) (readByte p) 14
 went Way.ReadEnd time rs reads bus byte p =
-    recorded (done time (passed (p .sheet)) (p .times .short) p) say.Taken (nibbleOf (p .half) * 16) 14
+    recorded (done time (passed (p .sheet)) (p .times .short) p) (readAs (isGood p)) (pick (isGood p) (nibbleOf (p .half) * 16) 0) 14
 went Way.Write time rs reads bus byte p = recorded (done time (written byte (p .sheet)) (p .times .short) p) say.Taken 0 14
 went Way.Obey time rs reads bus byte p = recorded (done time (obeyed byte (p .sheet)) (spanOf byte p) p) say.Taken 0 14
 

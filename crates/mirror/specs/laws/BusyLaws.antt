@@ -15,11 +15,11 @@ use Rattle.chip.specs.laws.WidthLaws.{obeyed-width, written-width}
 use Rattle.mirror.specs.Panel.{freshPanel, halfFits, soundPanel}
 use Rattle.mirror.specs.Words.{joinedOf, free}
 use Rattle.mirror.specs.laws.SoundParts.{parts, whole}
-use Rattle.mirror.specs.Table.{waits, differs, isStatus, busyAt, byteOf, sourceOf, heldHalf, panelFor}
+use Rattle.mirror.specs.Table.{waits, isFirst, differs, isStatus, busyAt, byteOf, sourceOf, heldHalf, panelFor}
 use Rattle.mirror.specs.Answers.{answerTo, panelAfter}
 use Rattle.mirror.specs.laws.TableCase.{answer-case, each-row}
-use Rattle.mirror.specs.Case.{Case}
-use Rattle.mirror.specs.Case.Case.{unsound, cut, bad, back, reset, torn, ignored, nothing, held, status, taken}
+use Rattle.mirror.specs.Case.{Acts, Case}
+use Rattle.mirror.specs.Case.Case.{unsound, cut, bad, back, reset, torn, ignored, nothing, held, status, doubtful, taken}
 use Rattle.mirror.specs.laws.RecordKeeps.{not-both}
 use Rattle.mirror.specs.laws.SoundLaws.{Lasts, record-lasts}
 use Rattle.mirror.specs.laws.TypedLaws.{AllData, frames-data, typed-lasts}
@@ -142,7 +142,8 @@ module _ (p : Panel) (log : List ℕ) where
       by n (nothing c a b) = judged 7 false refl (fit .unlike) o h whole a
       by n (held c a) = judged 1 false refl (fit .unlike) o h whole (c .minded)
       by n (status c a b) = absurd (false≢true (sym (fit .unlike) ∙ b))
-      by n (taken c a b) = judged 0 false refl (fit .unlike) o h whole (c .minded)
+      by n (doubtful c a b d) = judged 11 false refl (fit .unlike) o h whole (c .minded)
+      by n (taken c a b d) = judged 0 false refl (fit .unlike) o h whole (c .minded)
 
   -- and the half that waits afterwards agrees with the one that is open
   ended : (eight : Bool) (o : Open) (n : ℕ) → (eqb n 1 || eqb n 3) ≡ false → Agrees (pick (opens eight o (entry n)) (first (entry n)) none) Empty
@@ -185,21 +186,22 @@ module _ (p : Panel) (log : List ℕ) where
     by n (nothing c a b) = ended eight o 7 refl
     by n (held c a) = begun eight o h a (c .minded)
     by n (status c a b) = ended eight o 2 refl
-    by n (taken c a b) = ended eight o 0 refl
+    by n (doubtful c a b d) = ended eight o 11 refl
+    by n (taken c a b d) = ended eight o 0 refl
 
   -- the byte that is joined of the log is the one that the chip joins
   byte-same : (eight : Bool) (o : Open) {half : Half} → Agrees o half → halfFits eight half ≡ true → (not eight && not (waits half)) ≡ false →
       busyAt half (not (isStatus log) && not (free (timeOf log) p)) ≡ false → differs half (rsOf log) (rwOf log) ≡ false → rwOf log ≡ false →
-      byteBy o (entry 0) ≡ joinedOf eight half (dataOf log)
-  byte-same true none closed fits f b d w = refl
-  byte-same false none closed fits f b d w = absurd (false≢true (sym f))
-  byte-same eight (first e) (deaf three busy) fits f b d w = absurd (false≢true (sym b))
-  byte-same true (first e) (kept three busy nib) fits f b d w = absurd (false≢true fits)
-  byte-same false (first e) (kept {nibble = n} three busy nib) fits f b d w =
+      (n : ℕ) → byteBy o (entry n) ≡ joinedOf eight half (dataOf log)
+  byte-same true none closed fits f b d w n = refl
+  byte-same false none closed fits f b d w n = absurd (false≢true (sym f))
+  byte-same eight (first e) (deaf three busy) fits f b d w n = absurd (false≢true (sym b))
+  byte-same true (first e) (kept three busy nib) fits f b d w n = absurd (false≢true fits)
+  byte-same false (first e) (kept {nibble = x} three busy nib) fits f b d w n =
       let r = rsOf (e .bytes) in
       let v = rwOf (e .bytes) in
       let j = equal-bits v (rwOf log) (or-right (not (Bool·beq r (rsOf log))) (not (Bool·beq v (rwOf log))) d) in
-      ap (λ x. x * 16 + dataOf log / 16) (sym (nib (j ∙ w)) ∙ sym (mod-eq-of-lt (ltb-true n 16 fits)))
+      ap (λ y. y * 16 + dataOf log / 16) (sym (nib (j ∙ w)) ∙ sym (mod-eq-of-lt (ltb-true x 16 fits)))
 
   -- and so is the width
   pub width : (o : Open) → Agrees o (p .half) → widthAfter (p .sheet .registers .eight) o (notedAs p log) ≡ panelAfter p log .sheet .registers .eight
@@ -207,13 +209,19 @@ module _ (p : Panel) (log : List ℕ) where
     eight : Bool
     eight = p .sheet .registers .eight
 
-    step : (rs reads : Bool) → (reads && not rs) ≡ false → (reads ≡ false → byteBy o (entry 0) ≡ byteOf p log) →
-        pick (rs || reads) eight (widthBy (byteBy o (entry 0)) eight) ≡
+    step : (n : ℕ) (rs reads : Bool) → (reads && not rs) ≡ false → (reads ≡ false → byteBy o (entry n) ≡ byteOf p log) →
+        pick (rs || reads) eight (widthBy (byteBy o (entry n)) eight) ≡
         pick rs (pick reads (passed (p .sheet)) (written (byteOf p log) (p .sheet))) (obeyed (byteOf p log) (p .sheet)) .registers .eight
-    step true true s same = refl
-    step true false s same = sym (written-width (byteOf p log) (p .sheet))
-    step false true s same = absurd (false≢true (sym s))
-    step false false s same = ap (λ x. widthBy x eight) (same refl) ∙ sym (obeyed-width (byteOf p log) (p .sheet))
+    step n true true s same = refl
+    step n true false s same = sym (written-width (byteOf p log) (p .sheet))
+    step n false true s same = absurd (false≢true (sym s))
+    step n false false s same = ap (λ x. widthBy x eight) (same refl) ∙ sym (obeyed-width (byteOf p log) (p .sheet))
+
+    same : (n : ℕ) → Acts p log → isFirst p ≡ false → isStatus log ≡ false →
+        pick (rsOf log || rwOf log) eight (widthBy (byteBy o (entry n)) eight) ≡
+        pick (rsOf log) (pick (rwOf log) (passed (p .sheet)) (written (byteOf p log) (p .sheet))) (obeyed (byteOf p log) (p .sheet)) .registers .eight
+    same n c a b =
+        step n (rsOf log) (rwOf log) b (λ w. byte-same eight o h (parts p (c .paired .heard .sound) .half) a (c .minded) (c .paired .whole) w n)
 
     by : (n : ℕ) → Case p log n → widthAfter eight o (entry n) ≡ panelFor n p log .sheet .registers .eight
     by n (unsound a) = refl
@@ -226,9 +234,8 @@ module _ (p : Panel) (log : List ℕ) where
     by n (nothing c a b) = refl
     by n (held c a) = refl
     by n (status c a b) = refl
-    by n (taken c a b) =
-        rw (c .paired .transfer)
-        (step (rsOf log) (rwOf log) b (byte-same eight o h (parts p (c .paired .heard .sound) .half) a (c .minded) (c .paired .whole)))
+    by n (doubtful c a b d) = rw (c .paired .transfer) (same 11 c a b)
+    by n (taken c a b d) = rw (c .paired .transfer) (same 0 c a b)
 
 -- records that follow each other
 all-decided : (fs : List (List ℕ)) (p : Panel) (o : Open) → Agrees o (p .half) → Lasts p → AllData fs → AllDecided (p .sheet .registers .eight) o (notedFrom p fs)

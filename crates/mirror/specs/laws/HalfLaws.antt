@@ -13,7 +13,7 @@ use Rattle.mirror.specs.Answers.{answerTo, panelAfter, panelAfterAll, cl
 use Rattle.mirror.specs.laws.RecordKeeps.{not-both, second-clears, between-keeps}
 use Rattle.mirror.specs.laws.TableCase.{answer-case, answer-panel}
 use Rattle.mirror.specs.Case.{Case}
-use Rattle.mirror.specs.Case.Case.{unsound, cut, bad, back, reset, torn, ignored, nothing, held, status, taken}
+use Rattle.mirror.specs.Case.Case.{unsound, cut, bad, back, reset, torn, ignored, nothing, held, status, doubtful, taken}
 use Rattle.mirror.specs.declared.half.Half.{Half}
 use Rattle.mirror.specs.declared.half.Half.the-variants.{Empty, Ignored, Waiting}
 use Rattle.mirror.specs.declared.panel.Panel.{Panel}
@@ -67,7 +67,8 @@ module _ (p : Panel) (log : List ℕ) (mark : p .half ≡ Ignored (rsOf log) (rw
     by (nothing h a b) e = absurd (false≢true (sym a ∙ deaf-pair))
     by (held h a) e = absurd (false≢true (sym (h .minded) ∙ deaf-pair))
     by (status h a b) e = absurd (false≢true (sym (h .minded) ∙ deaf-pair))
-    by (taken h a b) e = absurd (false≢true (sym (h .minded) ∙ deaf-pair))
+    by (doubtful h a b d) e = absurd (false≢true (sym (h .minded) ∙ deaf-pair))
+    by (taken h a b d) e = absurd (false≢true (sym (h .minded) ∙ deaf-pair))
 
 -- a pair begun while busy is ignored in both halves, whenever the second comes, and the second starts no new pair (slip 1)
 pub ignored-pair : (p : Panel) (a : List ℕ) (between : List (List ℕ)) (b : List ℕ) →

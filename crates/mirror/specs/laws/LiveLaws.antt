@@ -12,7 +12,7 @@ use Rattle.mirror.specs.laws.FlatLaws.{Stands, registers-back}
 use Rattle.mirror.specs.engine.Record.{recorded}
 use Rattle.mirror.specs.Words.{done}
 use Rattle.mirror.specs.engine.Live.{panelOf, recordedOf, Passes}
-use Rattle.mirror.specs.declared.answer.Answer.the-variants as say
+use Rattle.mirror.specs.declared.answer.Answer.{Answer}
 use Rattle.mirror.specs.declared.flat.Modes.{Modes}
 use Rattle.mirror.specs.declared.half.Half.{Half}
 use Rattle.mirror.specs.declared.live.Live.{Live}
@@ -33,18 +33,19 @@ withParts p r h =
 
 pub opened : (p : Panel) {b : Bool} {d : DisplayAddress} {q : PatternAddress} {m : Modes} (h : Half) →
     Stands (p .sheet .registers .address) b d q → m ≡ modesOf (p .sheet .registers) → p .half ≡ h →
-    withParts p (registersWith (p .sheet .registers .chip) (addressOf b d q) (p .sheet .registers .shift) m) h ≡ p
+    withParts p (registersWith (p .sheet .registers .chip) (addressOf b d q) (p .sheet .registers .shift) (p .sheet .registers .good) m) h ≡ p
 opened p h s g k = ap (λ x. withParts p x h) (registers-back (p .sheet .registers) s g) ∙ ap (λ x. withParts p (p .sheet .registers) x) (sym k)
 
 -- a state with its registers and its busy end set anew
-abbrev withBusy : Live → ℕ → Bool → DisplayAddress → PatternAddress → ℕ → Modes → ℕ → Live
-withBusy k chip b d p shift m busy =
+abbrev withBusy : Live → ℕ → Bool → DisplayAddress → PatternAddress → ℕ → Bool → Modes → ℕ → Live
+withBusy k chip b d p shift good m busy =
     record {
       chip = chip;
       patterned = b;
       display = d;
       pattern = p;
       shift = shift;
+      good = good;
       modes = m;
       busy = busy;
       waits = k .waits;
@@ -57,15 +58,15 @@ withBusy k chip b d p shift m busy =
       used = k .used;
     }
 
-pub carried : (k left : Live) (r : Registers) {b : Bool} {x : DisplayAddress} {y : PatternAddress} {m : Modes} (time span byte used : ℕ) →
-    Passes time say.Taken byte used k left → Stands (r .address) b x y → m ≡ modesOf r → (t : Times) (d p : List ℕ) →
-    recordedOf t (withBusy left (r .chip) b x y (r .shift) m (time + span)) d p ≡ recorded (done time (sheetOf r d p) span (panelOf t k d p)) say.Taken byte used
-carried k left r {b} {x} {y} {m} time span byte used w s g t d p =
+pub carried : (k left : Live) (r : Registers) {b : Bool} {x : DisplayAddress} {y : PatternAddress} {m : Modes} (time span : ℕ) (answer : Answer) (byte used : ℕ) →
+    Passes time answer byte used k left → Stands (r .address) b x y → m ≡ modesOf r → (t : Times) (d p : List ℕ) →
+    recordedOf t (withBusy left (r .chip) b x y (r .shift) (r .good) m (time + span)) d p ≡ recorded (done time (sheetOf r d p) span (panelOf t k d p)) answer byte used
+carried k left r {b} {x} {y} {m} time span answer byte used w s g t d p =
     ap
     (λ (z : Recorded).
     recorded
     (record {
-      sheet = sheetOf (registersWith (r .chip) (addressOf b x y) (r .shift) m) d p;
+      sheet = sheetOf (registersWith (r .chip) (addressOf b x y) (r .shift) (r .good) m) d p;
       busy = time + span;
       half = z .panel .half;
       times = t;
@@ -73,4 +74,4 @@ carried k left r {b} {x} {y} {m} time span byte used w s g t d p =
     })
     (z .answer) (z .byte) (z .used))
     (w t d p)
-    ∙ ap (λ (z : Registers). recorded (done time (sheetOf z d p) span (panelOf t k d p)) say.Taken byte used) (registers-back r s g)
+    ∙ ap (λ (z : Registers). recorded (done time (sheetOf z d p) span (panelOf t k d p)) answer byte used) (registers-back r s g)

@@ -14,7 +14,7 @@ use Rattle.log.specs.laws.CutLaws.{none-want, wants-cut}
 use Rattle.log.specs.laws.FramesLaws.{frames-cut, tail-cut, record-first}
 use Rattle.log.specs.Carry.{carriedOf, reach, more, filled}
 use Rattle.log.specs.laws.CarryLaws.{left, wanting-wants, fill-front, more-left}
-use Rattle.mirror.specs.Answer.{Paper}
+use Rattle.mirror.specs.Answer.{countPlaces, Paper}
 use Rattle.mirror.specs.Panel.{soundPanel}
 use Rattle.mirror.specs.Table.{isBack, transferFor, numberFor, byteFor, Tabled, rowFor}
 use Rattle.mirror.specs.laws.TableLaws.{answered-row, row-sound, tabled}
@@ -193,7 +193,7 @@ replies st part r e =
 summed-by : (p : Panel) (log : List ℕ) (b : Bool) →
     let cut = ltb 0 (length (tail log)) in
     summed (runAs b p log) ≡
-    pick (not b) (record { number = some 10; counts = replicate 8 0; cut = false })
+    pick (not b) (record { number = some 10; counts = replicate countPlaces 0; cut = false })
     (record { number = pick cut (some 8) none; counts = onward (started p) (frames log) .counts; cut = cut })
 summed-by p log true = refl
 summed-by p log false = refl

@@ -12,7 +12,7 @@ use borrow.Author.Tests.{lt-ltb, ltb-true, ltb-false}
 use Rattle.laws.specs.Pick.{pick}
 use Rattle.laws.specs.engine.Turns.{turns}
 use Rattle.laws.specs.laws.TurnsLaws.{append, one-more}
-use Rattle.mirror.specs.Answer.{numberOf}
+use Rattle.mirror.specs.Answer.{numberOf, countPlaces, placeOf}
 use Rattle.mirror.specs.Run.{mostCount, raised, tallied}
 use Rattle.mirror.specs.engine.Reading.{consumedOf}
 use Rattle.mirror.specs.engine.Part.{raisedBy, addedTo, upTo, bumped, Room}
@@ -77,20 +77,20 @@ up-all (k ∷ part) = ap (λ r. k ∷ r) (up-all part)
 
 -- one more of an answer in the part is one more of all
 module _ (part : List ℕ) (answer : Answer) where
-  added-bump : (counts : List ℕ) → length part ≡ 8 → tallied (addedTo counts part) answer ≡ addedTo counts (bumped part answer)
+  added-bump : (counts : List ℕ) → length part ≡ countPlaces → tallied (addedTo counts part) answer ≡ addedTo counts (bumped part answer)
   unfolding tallied bumped turns
-  added-bump counts l = by (ltb (numberOf answer) 8) refl
+  added-bump counts l = by (ltb (placeOf (numberOf answer)) countPlaces) refl
     where
-      by : (b : Bool) → ltb (numberOf answer) 8 ≡ b → pick b (set (addedTo counts part) (numberOf answer) (raised (getD (addedTo counts part) (numberOf answer) 0))) (addedTo counts part) ≡ addedTo counts (pick b (set part (numberOf answer) (getD part (numberOf answer) 0 + 1)) part)
-      by true e = at-place counts part (numberOf answer) 1 (omega (arith, ltb-true (numberOf answer) 8 e, l))
+      by : (b : Bool) → ltb (placeOf (numberOf answer)) countPlaces ≡ b → pick b (set (addedTo counts part) (placeOf (numberOf answer)) (raised (getD (addedTo counts part) (placeOf (numberOf answer)) 0))) (addedTo counts part) ≡ addedTo counts (pick b (set part (placeOf (numberOf answer)) (getD part (placeOf (numberOf answer)) 0 + 1)) part)
+      by true e = at-place counts part (placeOf (numberOf answer)) 1 (omega (arith, ltb-true (placeOf (numberOf answer)) countPlaces e, l))
       by false e = refl
 
   length-bump : length (bumped part answer) ≡ length part
   unfolding bumped
-  length-bump = by (ltb (numberOf answer) 8)
+  length-bump = by (ltb (placeOf (numberOf answer)) countPlaces)
     where
-      by : (b : Bool) → length (pick b (set part (numberOf answer) (getD part (numberOf answer) 0 + 1)) part) ≡ length part
-      by true = length-set part (numberOf answer) (getD part (numberOf answer) 0 + 1)
+      by : (b : Bool) → length (pick b (set part (placeOf (numberOf answer)) (getD part (placeOf (numberOf answer)) 0 + 1)) part) ≡ length part
+      by true = length-set part (placeOf (numberOf answer)) (getD part (placeOf (numberOf answer)) 0 + 1)
       by false = refl
 
 -- no count of a part is above the bytes read: each record has some
@@ -106,10 +106,10 @@ set-few (x ∷ part) (suc n) at used u h (suc i) = set-few part n at used u (λ 
 
 bump-few : (part : List ℕ) (answer : Answer) (at used : ℕ) → 1 ≤ used → Few part at → Few (bumped part answer) (at + used)
 unfolding bumped
-bump-few part answer at used u h = by (ltb (numberOf answer) 8)
+bump-few part answer at used u h = by (ltb (placeOf (numberOf answer)) countPlaces)
   where
-    by : (b : Bool) → Few (pick b (set part (numberOf answer) (getD part (numberOf answer) 0 + 1)) part) (at + used)
-    by true = set-few part (numberOf answer) at used u h
+    by : (b : Bool) → Few (pick b (set part (placeOf (numberOf answer)) (getD part (placeOf (numberOf answer)) 0 + 1)) part) (at + used)
+    by true = set-few part (placeOf (numberOf answer)) at used u h
     by false = λ i. omega (arith, h i)
 
 none-few : (part : List ℕ) → Few (upTo 0 part) 0
@@ -120,17 +120,17 @@ none-few (k ∷ part) (suc i) = none-few part i
 -- a part being read: what is answered up to a place and what is left are all, and its own counts are few
 pub record Counting (log : List ℕ) (start : Totals) (p : Panel) (part : List ℕ) (records at : ℕ) : Type 0 where
   pub reading : Reading log start (record { panel = p; counts = addedTo (start .counts) part; records = raisedBy records (start .records) }) at
-  pub eight : length part ≡ 8
+  pub nine : length part ≡ countPlaces
   pub few : Few part at
   pub numbered : records ≤ at
 
-pub counting-starts : (log : List ℕ) (start : Totals) → Counting log start (start .panel) (replicate 8 0) 0 0
+pub counting-starts : (log : List ℕ) (start : Totals) → Counting log start (start .panel) (replicate countPlaces 0) 0 0
 unfolding turns
 counting-starts log start =
     record {
-      reading = rw (added-none (start .counts) (replicate 8 0)) (reading-starts log start);
-      eight = refl;
-      few = none-few (replicate 8 0);
+      reading = rw (added-none (start .counts) (replicate countPlaces 0)) (reading-starts log start);
+      nine = refl;
+      few = none-few (replicate countPlaces 0);
       numbered = omega arith;
     }
 
@@ -143,13 +143,13 @@ module _ {log : List ℕ} {start : Totals} {p : Panel} {part : List ℕ} {record
     counting-within = reading-goes (i .reading) r e z .within
 
     pub counting-room : length log ≤ mostCount → Room part (r .answer)
-    counting-room h = omega (arith, i .few (numberOf (r .answer)), counting-within, h, z)
+    counting-room h = omega (arith, i .few (placeOf (numberOf (r .answer))), counting-within, h, z)
 
     pub counting-goes : Counting log start (r .panel) (bumped part (r .answer)) (records + 1) (at + r .used)
     counting-goes =
         record {
-          reading = rw (← added-bump part (r .answer) (start .counts) (i .eight), one-more raised records (start .records)) (reading-goes (i .reading) r e z);
-          eight = length-bump part (r .answer) ∙ i .eight;
+          reading = rw (← added-bump part (r .answer) (start .counts) (i .nine), one-more raised records (start .records)) (reading-goes (i .reading) r e z);
+          nine = length-bump part (r .answer) ∙ i .nine;
           few = bump-few part (r .answer) at (r .used) (omega (arith, z)) (i .few);
           numbered = omega (arith, i .numbered, z);
         }

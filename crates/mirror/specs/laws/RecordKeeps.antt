@@ -1,9 +1,10 @@
 -- What a record leaves as it was (document 01, "Answer numbers", "Busy"; slip 2).
 use Prim.Native.Nat.{ℕ}
 use mathlib.Core.Path.{_≡_, refl, sym, ap, subst, _∙_}
-use mathlib.Core.Bool.{Bool, true, false, not, _&&_, false≢true, and-false}
+use mathlib.Core.Bool.{Bool, true, false, not, _&&_, _||_, false≢true, and-false}
 use mathlib.Core.List.{List, [], _∷_}
 use native.Mathlib.Omega.{arith}
+use lib.Dec.{leb, eqb}
 use borrow.Author.Tests.{eqb-true}
 use Rattle.laws.specs.Pick.{pick}
 use Rattle.log.specs.Frame.{kindOf, timeOf, rsOf, rwOf, isTransfer, isReset}
@@ -11,12 +12,13 @@ use Rattle.chip.specs.Sheet.{freshSheet}
 use Rattle.chip.specs.Step.{obeyed, written, passed}
 use Rattle.chip.specs.laws.ChipLaws.{obeyed-chip, written-chip, passed-chip}
 use Rattle.chip.specs.declared.sheet.Sheet.{Sheet}
+use Rattle.mirror.specs.Answer.{carriedOut}
 use Rattle.mirror.specs.Words.{holding, done}
 use Rattle.mirror.specs.Table.{waits, byteOf, isFirst, isStatus, sheetFor, spanFor, heldHalf, ignoredHalf, panelFor}
 use Rattle.mirror.specs.Answers.{answerTo, panelAfter, panelAfterAll, clocked, AllUnclocked}
 use Rattle.mirror.specs.laws.TableCase.{answer-case, each-row}
 use Rattle.mirror.specs.Case.{Case}
-use Rattle.mirror.specs.Case.Case.{unsound, cut, bad, back, reset, torn, ignored, nothing, held, status, taken}
+use Rattle.mirror.specs.Case.Case.{unsound, cut, bad, back, reset, torn, ignored, nothing, held, status, doubtful, taken}
 use Rattle.mirror.specs.declared.half.Half.{Half}
 use Rattle.mirror.specs.declared.half.Half.the-variants.{Empty, Ignored}
 use Rattle.mirror.specs.declared.panel.Panel.{Panel}
@@ -32,11 +34,15 @@ sheet-chip p log = by (isReset log) (rsOf log) (rwOf log) where
   by false true false = written-chip (byteOf p log) (p .sheet)
   by false false c = obeyed-chip (byteOf p log) (p .sheet)
 
+-- what is carried out sets the last time
+out-clocked : (n : ℕ) → carriedOut n ≡ true → clocked n ≡ true
+out-clocked n o = ap (λ b. b || leb n 4 || eqb n 7) o
+
 -- a panel afterwards: as it was; or with another last time and half; or with something carried out, on the same chip
 data After (p : Panel) (log : List ℕ) : ℕ → Panel → Type 0 where
   same : {n : ℕ} → clocked n ≡ false → After p log n p
   waiting : {n : ℕ} (half : Half) → clocked n ≡ true → (isFirst p ≡ false → half ≡ Empty) → After p log n (holding (timeOf log) half p)
-  acted : (s : Sheet) (span : ℕ) → s .registers .chip ≡ p .sheet .registers .chip → After p log 0 (done (timeOf log) s span p)
+  acted : {n : ℕ} (s : Sheet) (span : ℕ) → carriedOut n ≡ true → s .registers .chip ≡ p .sheet .registers .chip → After p log n (done (timeOf log) s span p)
 
 after : (p : Panel) (log : List ℕ) → After p log (answerTo p log) (panelAfter p log)
 after p log = each-row p log (After p log) by where
@@ -45,13 +51,14 @@ after p log = each-row p log (After p log) by where
   by n (cut a b) = same refl
   by n (bad a b c) = same refl
   by n (back a b c d) = same refl
-  by n (reset h a) = acted (sheetFor p log) (spanFor p log) (sheet-chip p log)
+  by n (reset h a) = acted (sheetFor p log) (spanFor p log) refl (sheet-chip p log)
   by n (torn h a b) = waiting Empty refl (λ f. refl)
   by n (ignored h a) = waiting (ignoredHalf p log) refl (λ f. ap (λ b. pick b (Ignored (rsOf log) (rwOf log)) Empty) f)
   by n (nothing h a b) = waiting Empty refl (λ f. refl)
   by n (held h a) = waiting (heldHalf p log) refl (λ f. absurd (false≢true (sym f ∙ a)))
   by n (status h a b) = waiting Empty refl (λ f. refl)
-  by n (taken h a b) = acted (sheetFor p log) (spanFor p log) (sheet-chip p log)
+  by n (doubtful h a b d) = acted (sheetFor p log) (spanFor p log) refl (sheet-chip p log)
+  by n (taken h a b d) = acted (sheetFor p log) (spanFor p log) refl (sheet-chip p log)
 
 -- answers 5, 6, 8 and 10 leave the panel as it was
 pub unclocked-keeps : (p : Panel) (log : List ℕ) → clocked (answerTo p log) ≡ false → panelAfter p log ≡ p
@@ -59,27 +66,27 @@ unclocked-keeps p log = by (after p log) where
   by : {n : ℕ} {q : Panel} → After p log n q → clocked n ≡ false → q ≡ p
   by (same c) e = refl
   by (waiting half c f) e = absurd (false≢true (sym e ∙ c))
-  by (acted s span k) e = absurd (false≢true (sym e))
+  by {n} (acted s span o k) e = absurd (false≢true (sym e ∙ out-clocked n o))
 
--- answers 0 to 4 and 7 set the last time to the record's time
+-- answers 0 to 4, 7 and 11 set the last time to the record's time
 pub clocked-last : (p : Panel) (log : List ℕ) → clocked (answerTo p log) ≡ true → panelAfter p log .last ≡ timeOf log
 clocked-last p log = by (after p log) where
   by : {n : ℕ} {q : Panel} → After p log n q → clocked n ≡ true → q .last ≡ timeOf log
   by (same c) e = absurd (false≢true (sym c ∙ e))
   by (waiting half c f) e = refl
-  by (acted s span k) e = refl
+  by (acted s span o k) e = refl
 
--- nothing but a taken record changes more than the last time and the half
-pub untaken-keeps : (p : Panel) (log : List ℕ) → (answerTo p log ≡ 0 → ⊥) →
+-- nothing but a record that is carried out changes more than the last time and the half
+pub untaken-keeps : (p : Panel) (log : List ℕ) → carriedOut (answerTo p log) ≡ false →
     panelAfter p log ≡ holding (panelAfter p log .last) (panelAfter p log .half) p
 untaken-keeps p log = by (after p log) where
-  by : {n : ℕ} {q : Panel} → After p log n q → (n ≡ 0 → ⊥) → q ≡ holding (q .last) (q .half) p
+  by : {n : ℕ} {q : Panel} → After p log n q → carriedOut n ≡ false → q ≡ holding (q .last) (q .half) p
   by (same c) z = refl
   by (waiting half c f) z = refl
-  by (acted s span k) z = absurd (z refl)
+  by (acted s span o k) z = absurd (false≢true (sym z ∙ o))
 
 -- so an ignored transfer, among others, leaves the busy end (slip 2)
-pub untaken-busy : (p : Panel) (log : List ℕ) → (answerTo p log ≡ 0 → ⊥) → panelAfter p log .busy ≡ p .busy
+pub untaken-busy : (p : Panel) (log : List ℕ) → carriedOut (answerTo p log) ≡ false → panelAfter p log .busy ≡ p .busy
 untaken-busy p log z = ap (λ (q : Panel). q .busy) (untaken-keeps p log z)
 
 -- the times stay
@@ -88,7 +95,7 @@ times-stay p log = by (after p log) where
   by : {n : ℕ} {q : Panel} → After p log n q → q .times ≡ p .times
   by (same c) = refl
   by (waiting half c f) = refl
-  by (acted s span k) = refl
+  by (acted s span o k) = refl
 
 -- and so does the chip
 pub chip-stays : (p : Panel) (log : List ℕ) → panelAfter p log .sheet .registers .chip ≡ p .sheet .registers .chip
@@ -96,7 +103,7 @@ chip-stays p log = by (after p log) where
   by : {n : ℕ} {q : Panel} → After p log n q → q .sheet .registers .chip ≡ p .sheet .registers .chip
   by (same c) = refl
   by (waiting half c f) = refl
-  by (acted s span k) = k
+  by (acted s span o k) = k
 
 -- after any second half no half waits
 pub second-clears : (p : Panel) (log : List ℕ) → waits (p .half) ≡ true → clocked (answerTo p log) ≡ true → panelAfter p log .half ≡ Empty
@@ -107,17 +114,27 @@ second-clears p log w = by (after p log) where
   by : {n : ℕ} {q : Panel} → After p log n q → clocked n ≡ true → q .half ≡ Empty
   by (same c) e = absurd (false≢true (sym c ∙ e))
   by (waiting half c f) e = f first
-  by (acted s span k) e = refl
+  by (acted s span o k) e = refl
 
 pub not-both : (log : List ℕ) → isTransfer log ≡ true → isReset log ≡ true → ⊥
 not-both log a b = omega (arith, eqb-true (kindOf log) 1 a, eqb-true (kindOf log) 2 b)
 
--- a status read, at both widths, is not taken
-status-untaken : (p : Panel) (log : List ℕ) → isTransfer log ≡ true → isStatus log ≡ true → answerTo p log ≡ 0 → ⊥
-status-untaken p log k s z = by (subst (Case p log) z (answer-case p log)) where
-  by : Case p log 0 → ⊥
-  by (reset h a) = not-both log k a
-  by (taken h a b) = false≢true (sym b ∙ s)
+-- a status read, at both widths, is not carried out
+status-untaken : (p : Panel) (log : List ℕ) → isTransfer log ≡ true → isStatus log ≡ true → carriedOut (answerTo p log) ≡ false
+status-untaken p log k s = by (answer-case p log) where
+  by : {n : ℕ} → Case p log n → carriedOut n ≡ false
+  by (unsound a) = refl
+  by (cut a b) = refl
+  by (bad a b c) = refl
+  by (back a b c d) = refl
+  by (reset h a) = absurd (not-both log k a)
+  by (torn h a b) = refl
+  by (ignored h a) = refl
+  by (nothing h a b) = refl
+  by (held h a) = refl
+  by (status h a b) = refl
+  by (doubtful h a b d) = absurd (false≢true (sym b ∙ s))
+  by (taken h a b d) = absurd (false≢true (sym b ∙ s))
 
 -- and changes nothing but the last time and the half
 pub status-keeps : (p : Panel) (log : List ℕ) → isTransfer log ≡ true → isStatus log ≡ true →

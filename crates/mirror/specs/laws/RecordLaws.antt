@@ -43,10 +43,10 @@ held-as time rs reads p b c e = ap (λ x. recorded (holding time (Waiting rs rea
 pub shown-as : (p : Panel) (a : Answer) (b c : ℕ) → b ≡ c → recorded p a b 14 ≡ recorded p a c 14
 shown-as p a b c e = ap (λ x. recorded p a x 14) e
 
-pub done-as : (time : ℕ) (s t : Sheet) (span : ℕ) (p : Panel) (b c used : ℕ) → s ≡ t → b ≡ c →
-    recorded (done time s span p) say.Taken b used ≡ recorded (done time t span p) say.Taken c used
-done-as time s t span p b c used e f =
-    ap (λ x. recorded (done time x span p) say.Taken b used) e ∙ ap (λ y. recorded (done time t span p) say.Taken y used) f
+pub done-as : (time : ℕ) (s t : Sheet) (span : ℕ) (p : Panel) (a : Answer) (b c used : ℕ) → s ≡ t → b ≡ c →
+    recorded (done time s span p) a b used ≡ recorded (done time t span p) a c used
+done-as time s t span p a b c used e f =
+    ap (λ x. recorded (done time x span p) a b used) e ∙ ap (λ y. recorded (done time t span p) a y used) f
 
 -- a step of equal registers
 pub stepped-as : (f : Sheet → Sheet) (s : Sheet) (r q : Registers) (d p : List ℕ) → s ≡ f (sheetOf r d p) → r ≡ q → s ≡ f (sheetOf q d p)
@@ -55,6 +55,6 @@ stepped-as f s r q d p e g = e ∙ ap (λ x. f (sheetOf x d p)) g
 pub read-as : (b : ℕ) (r q : Registers) (d p : List ℕ) → b ≡ readHere r d p → r ≡ q → b ≡ readHere q d p
 read-as b r q d p e g = e ∙ ap (λ x. readHere x d p) g
 
-pub span-as : (time : ℕ) (s : Sheet) (span width : ℕ) (p : Panel) (b used : ℕ) → span ≡ width →
-    recorded (done time s span p) say.Taken b used ≡ recorded (done time s width p) say.Taken b used
-span-as time s span width p b used e = ap (λ x. recorded (done time s x p) say.Taken b used) e
+pub span-as : (time : ℕ) (s : Sheet) (span width : ℕ) (p : Panel) (a : Answer) (b used : ℕ) → span ≡ width →
+    recorded (done time s span p) a b used ≡ recorded (done time s width p) a b used
+span-as time s span width p a b used e = ap (λ x. recorded (done time s x p) a b used) e

@@ -16,10 +16,10 @@ use Rattle.log.specs.laws.FramesLaws.{frames-cut, tail-cut, front-next}
 use Rattle.log.specs.declared.frame.Frame.{Frame}
 use Rattle.log.specs.declared.frame.Frame.the-variants as frame
 use Rattle.chip.specs.Sheet.{freshSheet}
-use Rattle.mirror.specs.Answer.{numberOf}
+use Rattle.mirror.specs.Answer.{numberOf, countPlaces, placeOf}
 use Rattle.mirror.specs.engine.Way.{Way, wayOf}
-use Rattle.mirror.specs.Words.{joinedOf, free, done}
-use Rattle.mirror.specs.engine.Record.{recorded, went, transferred, answered}
+use Rattle.mirror.specs.Words.{joinedOf, free, isGood, done}
+use Rattle.mirror.specs.engine.Record.{recorded, readAs, went, transferred, answered}
 use Rattle.mirror.specs.laws.TableLaws.{answered-row}
 use Rattle.mirror.specs.Run.{counted, advanced, onward}
 use Rattle.mirror.specs.engine.Reading.{consumedOf}
@@ -29,14 +29,18 @@ use Rattle.mirror.specs.declared.panel.Panel.{Panel}
 use Rattle.mirror.specs.declared.record.Recorded.{Recorded}
 use Rattle.mirror.specs.declared.totals.Totals.{Totals}
 
--- whether an answer is one of 0 to 7, which are counted
+-- whether an answer has its count
 abbrev pub Counted : Answer → Type 0
-Counted a = ltb (numberOf a) 8 ≡ true
+Counted a = ltb (placeOf (numberOf a)) countPlaces ≡ true
 
 -- every way of a transfer uses its 14 bytes, and its answer is counted
 pub record Settled (r : Recorded) : Type 0 where
   pub used : r .used ≡ 14
   pub counts : Counted (r .answer)
+
+read-counted : (good : Bool) → Counted (readAs good)
+read-counted true = refl
+read-counted false = refl
 
 pub went-settled : (v : Way) (time : ℕ) (rs reads : Bool) (bus byte : ℕ) (p : Panel) → Settled (went v time rs reads bus byte p)
 went-settled Way.Torn time rs reads bus byte p = record { used = refl; counts = refl }
@@ -48,8 +52,8 @@ went-settled Way.HoldRead time rs reads bus byte p = record { used = refl; count
 went-settled Way.HoldWrite time rs reads bus byte p = record { used = refl; counts = refl }
 went-settled Way.Status time rs reads bus byte p = record { used = refl; counts = refl }
 went-settled Way.StatusEnd time rs reads bus byte p = record { used = refl; counts = refl }
-went-settled Way.Read time rs reads bus byte p = record { used = refl; counts = refl }
-went-settled Way.ReadEnd time rs reads bus byte p = record { used = refl; counts = refl }
+went-settled Way.Read time rs reads bus byte p = record { used = refl; counts = read-counted (isGood p) }
+went-settled Way.ReadEnd time rs reads bus byte p = record { used = refl; counts = read-counted (isGood p) }
 went-settled Way.Write time rs reads bus byte p = record { used = refl; counts = refl }
 went-settled Way.Obey time rs reads bus byte p = record { used = refl; counts = refl }
 

@@ -20,7 +20,7 @@ use Rattle.mirror.specs.Table.{waits, busyAt, sourceOf, byteOf, heldHalf
 use Rattle.mirror.specs.Answers.{panelAfter}
 use Rattle.mirror.specs.laws.TableCase.{each-row}
 use Rattle.mirror.specs.Case.{Heard, Case}
-use Rattle.mirror.specs.Case.Case.{unsound, cut, bad, back, reset, torn, ignored, nothing, held, status, taken}
+use Rattle.mirror.specs.Case.Case.{unsound, cut, bad, back, reset, torn, ignored, nothing, held, status, doubtful, taken}
 use Rattle.mirror.specs.declared.half.Half.{Half}
 use Rattle.mirror.specs.declared.half.Half.the-variants.{Empty, Ignored, Waiting}
 use Rattle.mirror.specs.declared.panel.Panel.{Panel}
@@ -115,7 +115,8 @@ module _ (p : Panel) (log : List ℕ) (small : dataOf log < 256) (h : Lasts p) w
       holding-lasts (c .paired .heard) (heldHalf p log)
       (held-fits (p .sheet .registers .eight) (p .half) (rsOf log) (rwOf log) nibble a (nibble-fits (rwOf log)))
   row-lasts n (status c a b) = holding-lasts (c .paired .heard) Empty refl
-  row-lasts n (taken c a b) = done-lasts (c .paired .heard)
+  row-lasts n (doubtful c a b d) = done-lasts (c .paired .heard)
+  row-lasts n (taken c a b d) = done-lasts (c .paired .heard)
 
 -- every answer leaves a sound panel sound, its busy end below 2^48 + 65,536 since a time is below 2^48
 pub record-lasts : (p : Panel) (log : List ℕ) → dataOf log < 256 → Lasts p → Lasts (panelAfter p log)

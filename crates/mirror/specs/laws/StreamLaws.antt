@@ -24,6 +24,7 @@ use Rattle.log.specs.declared.flaw.Flaw.{Flaw}
 use Rattle.log.specs.declared.frame.Frame.{Frame}
 use Rattle.log.specs.declared.carry.Carry.{Carry}
 use Rattle.log.specs.declared.carry.Filled.{Filled}
+use Rattle.mirror.specs.Answer.{countPlaces}
 use Rattle.mirror.specs.Panel.{soundPanel}
 use Rattle.mirror.specs.Run.{mostCount, capped, raised, started, advanced, onward}
 use Rattle.mirror.specs.engine.Reading.{consumedOf}
@@ -247,7 +248,7 @@ feed-run p log = by (soundPanel p)
     by false =
         let n : 0 + length (frames log) ≡ length (frames log) = omega arith in
         ap endOf (fed false p log) ∙
-        ap (λ r. record { panel = p; counts = replicate 8 0; records = r; cut = false; refused = true })
+        ap (λ r. record { panel = p; counts = replicate countPlaces 0; records = r; cut = false; refused = true })
         (onward-records (frames log) (started standIn) 0 refl ∙ ap capped n)
 
 -- what `feed` has in hand once it has filled the carry: the bytes then carried, and how many of the part's they took

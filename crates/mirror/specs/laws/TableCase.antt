@@ -7,27 +7,28 @@ use Rattle.laws.specs.Pick.{pick}
 use Rattle.log.specs.Frame.{isReset, cutAt, badAt}
 use Rattle.mirror.specs.Panel.{soundPanel}
 use Rattle.mirror.specs.Answers.{answerTo, panelAfter}
-use Rattle.mirror.specs.Table.{isBack, tears, ignores, isNone, isFirst, isStatus, transferFor, numberFor, panelFor}
+use Rattle.mirror.specs.Table.{isBack, tears, ignores, isNone, isFirst, isStatus, isDoubtful, transferFor, numberFor, panelFor}
 use Rattle.mirror.specs.Answer.{Paper}
 use Rattle.mirror.specs.laws.TableLaws.{tabled}
 use Rattle.mirror.specs.Case.{Heard, Paired, Acts, Case}
-use Rattle.mirror.specs.Case.Case.{unsound, cut, bad, back, reset, torn, ignored, nothing, held, status, taken}
+use Rattle.mirror.specs.Case.Case.{unsound, cut, bad, back, reset, torn, ignored, nothing, held, status, doubtful, taken}
 use Rattle.mirror.specs.declared.panel.Panel.{Panel}
 
 module _ (p : Panel) (log : List ℕ) where
-  acts-case : Acts p log → (a b : Bool) → isFirst p ≡ a → isStatus log ≡ b → Case p log (pick a 1 (pick b 2 0))
-  acts-case h true b e f = held h e
-  acts-case h false true e f = status h e f
-  acts-case h false false e f = taken h e f
+  acts-case : Acts p log → (a b c : Bool) → isFirst p ≡ a → isStatus log ≡ b → isDoubtful p log ≡ c → Case p log (pick a 1 (pick b 2 (pick c 11 0)))
+  acts-case h true b c e f g = held h e
+  acts-case h false true c e f g = status h e f
+  acts-case h false false true e f g = doubtful h e f g
+  acts-case h false false false e f g = taken h e f g
 
   paired-case : Paired p log → (a b : Bool) → ignores p log ≡ a → isNone p log ≡ b →
-      Case p log (pick a 3 (pick b 7 (pick (isFirst p) 1 (pick (isStatus log) 2 0))))
+      Case p log (pick a 3 (pick b 7 (pick (isFirst p) 1 (pick (isStatus log) 2 (pick (isDoubtful p log) 11 0)))))
   paired-case h true b e f = ignored h e
   paired-case h false true e f = nothing h e f
-  paired-case h false false e f = acts-case (record { paired = h; minded = e; some = f }) (isFirst p) (isStatus log) refl refl
+  paired-case h false false e f = acts-case (record { paired = h; minded = e; some = f }) (isFirst p) (isStatus log) (isDoubtful p log) refl refl refl
 
   heard-case : Heard p log → (a b : Bool) → isReset log ≡ a → tears p log ≡ b →
-      Case p log (pick a 0 (pick b 4 (pick (ignores p log) 3 (pick (isNone p log) 7 (pick (isFirst p) 1 (pick (isStatus log) 2 0))))))
+      Case p log (pick a 0 (pick b 4 (pick (ignores p log) 3 (pick (isNone p log) 7 (pick (isFirst p) 1 (pick (isStatus log) 2 (pick (isDoubtful p log) 11 0)))))))
   heard-case h true b e f = reset h e
   heard-case h false true e f = torn h e f
   heard-case h false false e f = paired-case (record { heard = h; transfer = e; whole = f }) (ignores p log) (isNone p log) refl refl

@@ -12,9 +12,9 @@ use Rattle.log.specs.declared.frame.Frame.{Frame}
 use Rattle.chip.specs.Sheet.{freshSheet}
 use Rattle.mirror.specs.Panel.{halfFits, soundPanel}
 use Rattle.mirror.specs.engine.Way.{Way, wholeOf, firstOf, secondOf, wayOf}
-use Rattle.mirror.specs.Words.{joinedOf, free, done}
+use Rattle.mirror.specs.Words.{joinedOf, free, isGood, done}
 use Rattle.mirror.specs.engine.Record.{recorded, went, transferred, answered}
-use Rattle.mirror.specs.Table.{waits, isFirst, differs, tears, isStatus, busyAt, ignores, isNone, isBack, transferFor, heardFor, numberFor, byteFor, panelFor, usedFor, Tabled, rowOf, wholeAt, rowWith, rowFor, recordOf}
+use Rattle.mirror.specs.Table.{waits, isFirst, differs, tears, isStatus, busyAt, ignores, isNone, isBack, transferFor, heardFor, numberFor, isDoubtful, byteFor, panelFor, usedFor, Tabled, rowOf, wholeAt, rowWith, rowFor, recordOf}
 use Rattle.mirror.specs.laws.SoundParts.{Sound, parts}
 use Rattle.mirror.specs.Answer.{numberOf, answerOf, busByte, Paper, paper}
 use Rattle.mirror.specs.Promise.{Records}
@@ -26,12 +26,12 @@ use Rattle.mirror.specs.declared.panel.Panel.{Panel}
 use Rattle.mirror.specs.declared.record.Recorded.{Recorded}
 
 -- `transferFor` with all that it looks at apart, so that each can be generalised
-abbrev numberBy : Bool → Half → Bool → Bool → Bool → ℕ → ℕ
-numberBy eight half free rs reads byte =
+abbrev numberBy : Bool → Half → Bool → Bool → Bool → Bool → ℕ → ℕ
+numberBy eight half free good rs reads byte =
     let first = not eight && not (waits half) in
     pick (differs half rs reads) 4
     (pick (busyAt half (not (reads && not rs) && not free)) 3
-    (pick (not first && not rs && not reads && eqb byte 0) 7 (pick first 1 (pick (reads && not rs) 2 0))))
+    (pick (not first && not rs && not reads && eqb byte 0) 7 (pick first 1 (pick (reads && not rs) 2 (pick (rs && reads && not good) 11 0)))))
 
 -- a row whose number and byte look at no half at width 8
 record RowAt (n : ℕ) (p : Panel) (log : List ℕ) (r : Recorded) : Type 0 where
@@ -40,15 +40,15 @@ record RowAt (n : ℕ) (p : Panel) (log : List ℕ) (r : Recorded) : Type 0 wher
   panel : r .panel ≡ panelFor n p log
   used : r .used ≡ usedFor n log
 
--- a panel with its width and half set anew
-abbrev at : Bool → Half → Panel → Panel
-at eight half p =
+-- a panel with its width, its half and whether its next read is good set anew
+abbrev at : Bool → Half → Bool → Panel → Panel
+at eight half good p =
     let r = p .sheet .registers in
     record {
       sheet =
           record {
             registers =
-                record { chip = r .chip; address = r .address; shift = r .shift; up = r .up; follow = r .follow; on = r .on; cursor = r .cursor; blink = r .blink; eight = eight; function = r .function };
+                record { chip = r .chip; address = r .address; shift = r .shift; up = r .up; follow = r .follow; on = r .on; cursor = r .cursor; blink = r .blink; eight = eight; function = r .function; good = good };
             display = p .sheet .display;
             pattern = p .sheet .pattern;
           };
@@ -76,60 +76,62 @@ module _ (p : Panel) (log : List ℕ) where
   row a b c d = record { paper = a; byte = b; panel = c; used = d }
 
   -- an instruction write that is complete
-  code : (eight : Bool) (half : Half) → Good log false false → (b : Bool) →
-      Goes (pick b 7 0) (pick b Way.Nothing Way.Obey) (joinedOf eight half (dataOf log)) (at eight half p) log
-  code eight half g true = row refl refl refl (g .size)
-  code eight half g false = row refl (rw (g .kind, g .reads-is)) (rw (g .kind, g .rs-is)) (g .size)
+  code : (eight : Bool) (half : Half) (good : Bool) → Good log false false → (b : Bool) →
+      Goes (pick b 7 0) (pick b Way.Nothing Way.Obey) (joinedOf eight half (dataOf log)) (at eight half good p) log
+  code eight half good g true = row refl refl refl (g .size)
+  code eight half good g false = row refl (rw (g .kind, g .reads-is)) (rw (g .kind, g .rs-is)) (g .size)
 
-  whole : (half : Half) (free reads rs : Bool) → Good log rs reads →
-      let byte = dataOf log in Goes (numberBy true Empty free rs reads byte) (wholeOf free rs reads byte) byte (at true half p) log
-  whole half free true false g = row refl (rw (g .kind, g .rs-is, g .reads-is)) refl (g .size)
-  whole half false true true g = row refl refl refl (g .size)
-  whole half false false rs g = row refl refl refl (g .size)
-  whole half true true true g = row refl (rw (g .kind, g .rs-is, g .reads-is)) (rw (g .kind, g .rs-is, g .reads-is)) (g .size)
-  whole half true false true g = row refl (rw (g .kind, g .reads-is)) (rw (g .kind, g .rs-is, g .reads-is)) (g .size)
-  whole half true false false g = code true half g (eqb (dataOf log) 0)
+  whole : (half : Half) (free good reads rs : Bool) → Good log rs reads →
+      let byte = dataOf log in Goes (numberBy true Empty free good rs reads byte) (wholeOf free rs reads byte) byte (at true half good p) log
+  whole half free good true false g = row refl (rw (g .kind, g .rs-is, g .reads-is)) refl (g .size)
+  whole half false good true true g = row refl refl refl (g .size)
+  whole half false good false rs g = row refl refl refl (g .size)
+  whole half true true true true g = row refl (rw (g .kind, g .rs-is, g .reads-is)) (rw (g .kind, g .rs-is, g .reads-is)) (g .size)
+  whole half true false true true g = row refl refl (rw (g .kind, g .rs-is, g .reads-is)) (g .size)
+  whole half true good false true g = row refl (rw (g .kind, g .reads-is)) (rw (g .kind, g .rs-is, g .reads-is)) (g .size)
+  whole half true good false false g = code true half good g (eqb (dataOf log) 0)
 
-  first : (byte : ℕ) (free reads rs : Bool) → Good log rs reads →
-      Goes (numberBy false Empty free rs reads byte) (firstOf free rs reads) byte (at false Empty p) log
-  first byte free true false g = row refl (rw (g .kind, g .rs-is, g .reads-is)) (rw (g .rs-is, g .reads-is)) (g .size)
-  first byte false true true g = row refl refl refl (g .size)
-  first byte false false rs g = row refl refl refl (g .size)
-  first byte true true true g = row refl (rw (g .kind, g .rs-is, g .reads-is)) (rw (g .rs-is, g .reads-is)) (g .size)
-  first byte true false rs g = row refl (rw (g .kind, g .reads-is)) (rw (g .reads-is)) (g .size)
+  first : (byte : ℕ) (free good reads rs : Bool) → Good log rs reads →
+      Goes (numberBy false Empty free good rs reads byte) (firstOf free rs reads) byte (at false Empty good p) log
+  first byte free good true false g = row refl (rw (g .kind, g .rs-is, g .reads-is)) (rw (g .rs-is, g .reads-is)) (g .size)
+  first byte false good true true g = row refl refl refl (g .size)
+  first byte false good false rs g = row refl refl refl (g .size)
+  first byte true good true true g = row refl (rw (g .kind, g .rs-is, g .reads-is)) (rw (g .rs-is, g .reads-is)) (g .size)
+  first byte true good false rs g = row refl (rw (g .kind, g .reads-is)) (rw (g .reads-is)) (g .size)
 
-  second : (r w : Bool) (nibble : ℕ) (reads rs : Bool) → Good log rs reads → let h = Waiting r w nibble in let byte = joinedOf false h (dataOf log) in
-      Goes (pick (not rs && not reads && eqb byte 0) 7 (pick (reads && not rs) 2 0)) (secondOf rs reads byte) byte (at false h p) log
-  second r w nibble true false g = row refl (rw (g .kind, g .reads-is)) refl (g .size)
-  second r w nibble true true g = row refl (rw (g .kind, g .reads-is)) (rw (g .kind, g .rs-is, g .reads-is)) (g .size)
-  second r w nibble false true g = row refl (rw (g .kind, g .reads-is)) (rw (g .kind, g .rs-is, g .reads-is)) (g .size)
-  second r w nibble false false g = code false (Waiting r w nibble) g (eqb (joinedOf false (Waiting r w nibble) (dataOf log)) 0)
+  second : (r w : Bool) (nibble : ℕ) (good reads rs : Bool) → Good log rs reads → let h = Waiting r w nibble in let byte = joinedOf false h (dataOf log) in
+      Goes (pick (not rs && not reads && eqb byte 0) 7 (pick (reads && not rs) 2 (pick (rs && reads && not good) 11 0))) (secondOf rs reads byte) byte (at false h good p) log
+  second r w nibble good true false g = row refl (rw (g .kind, g .reads-is)) refl (g .size)
+  second r w nibble true true true g = row refl (rw (g .kind, g .reads-is)) (rw (g .kind, g .rs-is, g .reads-is)) (g .size)
+  second r w nibble false true true g = row refl refl (rw (g .kind, g .rs-is, g .reads-is)) (g .size)
+  second r w nibble good false true g = row refl (rw (g .kind, g .reads-is)) (rw (g .kind, g .rs-is, g .reads-is)) (g .size)
+  second r w nibble good false false g = code false (Waiting r w nibble) good g (eqb (joinedOf false (Waiting r w nibble) (dataOf log)) 0)
 
-  torn : (h : Half) (byte : ℕ) (a b : Bool) {n : ℕ} (v : Way) → 14 ≡ recordSize log → Goes n v byte (at false h p) log →
-      Goes (pick (a || b) 4 n) (pick a Way.Torn (pick b Way.Torn v)) byte (at false h p) log
-  torn h byte true b v s g = row refl refl refl s
-  torn h byte false true v s g = row refl refl refl s
-  torn h byte false false v s g = g
+  torn : (h : Half) (good : Bool) (byte : ℕ) (a b : Bool) {n : ℕ} (v : Way) → 14 ≡ recordSize log → Goes n v byte (at false h good p) log →
+      Goes (pick (a || b) 4 n) (pick a Way.Torn (pick b Way.Torn v)) byte (at false h good p) log
+  torn h good byte true b v s g = row refl refl refl s
+  torn h good byte false true v s g = row refl refl refl s
+  torn h good byte false false v s g = g
 
-  goes : (eight : Bool) (half : Half) (free reads rs : Bool) → Good log rs reads →
+  goes : (eight : Bool) (half : Half) (free good reads rs : Bool) → Good log rs reads →
       let byte = joinedOf eight half (dataOf log) in
       let none = pick eight Empty half in
-      Goes (numberBy eight none free rs reads (joinedOf eight none (dataOf log))) (wayOf eight half free rs reads byte) byte (at eight half p) log
-  goes true half free reads rs g = whole half free reads rs g
-  goes false Empty free reads rs g = first (joinedOf false Empty (dataOf log)) free reads rs g
-  goes false (Ignored r w) free reads rs g =
-      torn (Ignored r w) (joinedOf false (Ignored r w) (dataOf log)) (not (Bool·beq r rs)) (not (Bool·beq w reads)) Way.Ignored (g .size)
+      Goes (numberBy eight none free good rs reads (joinedOf eight none (dataOf log))) (wayOf eight half free rs reads byte) byte (at eight half good p) log
+  goes true half free good reads rs g = whole half free good reads rs g
+  goes false Empty free good reads rs g = first (joinedOf false Empty (dataOf log)) free good reads rs g
+  goes false (Ignored r w) free good reads rs g =
+      torn (Ignored r w) good (joinedOf false (Ignored r w) (dataOf log)) (not (Bool·beq r rs)) (not (Bool·beq w reads)) Way.Ignored (g .size)
       (row refl refl refl (g .size))
-  goes false (Waiting r w nibble) free reads rs g =
+  goes false (Waiting r w nibble) free good reads rs g =
       let byte = joinedOf false (Waiting r w nibble) (dataOf log) in
-      torn (Waiting r w nibble) byte (not (Bool·beq r rs)) (not (Bool·beq w reads)) (secondOf rs reads byte) (g .size)
-      (second r w nibble reads rs g)
+      torn (Waiting r w nibble) good byte (not (Bool·beq r rs)) (not (Bool·beq w reads)) (secondOf rs reads byte) (g .size)
+      (second r w nibble good reads rs g)
 
 module _ (p : Panel) (log : List ℕ) where
   transfer-row : kindOf log ≡ 1 → 14 ≡ recordSize log → RowAt (transferFor (wholeAt p) log) p log (transferred (timeOf log) (rsOf log) (rwOf log) (dataOf log) p)
   unfolding transferred
   transfer-row k s =
-      goes p log (p .sheet .registers .eight) (p .half) (free (timeOf log) p) (rwOf log) (rsOf log)
+      goes p log (p .sheet .registers .eight) (p .half) (free (timeOf log) p) (isGood p) (rwOf log) (rsOf log)
       (record { kind = k; size = s; rs-is = refl; reads-is = refl })
 
   unless-back : (b : Bool) {n size : ℕ} (r : Recorded) → size ≡ recordSize log → RowAt n p log r → RowAt (pick b 5 n) p log (pick b (recorded p say.Back 0 size) r)
@@ -148,8 +150,9 @@ module _ (p : Panel) (log : List ℕ) where
       (row p log refl (rw k) (rw k) (g .size)))
 
 -- the number of an answer tells it
-named : (a : Answer) → answerOf (numberOf a) ≡ a
+pub named : (a : Answer) → answerOf (numberOf a) ≡ a
 named say.Taken = refl
+named say.Doubtful = refl
 named say.Held = refl
 named say.Status = refl
 named say.Ignored = refl
@@ -203,23 +206,25 @@ refused-unsound p log e = ap (λ b. rowOf (pick (not b) 10 (heardFor p log)) p l
 -- one record: the answer's number, the bus byte, the panel afterwards and the bytes used are the table's
 numbered : (p : Panel) (log : List ℕ) (b : Bool) → numberOf (answerOf (pick b 10 (heardFor p log))) ≡ pick b 10 (heardFor p log)
 numbered p log true = refl
-numbered p log false = by (cutAt log) (badAt log) (isBack p log) (isReset log) (tears p log) (ignores p log) (isNone p log) (isFirst p) (isStatus log)
+numbered p log false = by (cutAt log) (badAt log) (isBack p log) (isReset log) (tears p log) (ignores p log) (isNone p log) (isFirst p) (isStatus log) (isDoubtful p log)
   where
-    by : (a b c d e f g h i : Bool) →
-        let n : ℕ = pick a 8 (pick b 6 (pick c 5 (pick d 0 (pick e 4 (pick f 3 (pick g 7 (pick h 1 (pick i 2 0)))))))) in numberOf (answerOf n) ≡ n
-    by true b c d e f g h i = refl
-    by false true c d e f g h i = refl
-    by false false true d e f g h i = refl
-    by false false false true e f g h i = refl
-    by false false false false true f g h i = refl
-    by false false false false false true g h i = refl
-    by false false false false false false true h i = refl
-    by false false false false false false false true i = refl
-    by false false false false false false false false true = refl
-    by false false false false false false false false false = refl
+    by : (a b c d e f g h i j : Bool) →
+        let n : ℕ = pick a 8 (pick b 6 (pick c 5 (pick d 0 (pick e 4 (pick f 3 (pick g 7 (pick h 1 (pick i 2 (pick j 11 0))))))))) in numberOf (answerOf n) ≡ n
+    by true b c d e f g h i j = refl
+    by false true c d e f g h i j = refl
+    by false false true d e f g h i j = refl
+    by false false false true e f g h i j = refl
+    by false false false false true f g h i j = refl
+    by false false false false false true g h i j = refl
+    by false false false false false false true h i j = refl
+    by false false false false false false false true i j = refl
+    by false false false false false false false false true j = refl
+    by false false false false false false false false false true = refl
+    by false false false false false false false false false false = refl
 
 carries : (a : Answer) (n : ℕ) (p : Panel) (log : List ℕ) → answerOf n ≡ a → numberOf (answerOf n) ≡ n → busByte a (byteFor n p log) ≡ byteFor n p log
 carries say.Taken n p log e k = refl
+carries say.Doubtful n p log e k = ap (λ x. byteFor x p log) (sym (ap numberOf e) ∙ k)
 carries say.Held n p log e k = refl
 carries say.Status n p log e k = refl
 carries say.Ignored n p log e k = ap (λ x. byteFor x p log) (sym (ap numberOf e) ∙ k)

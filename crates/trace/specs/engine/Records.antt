@@ -3,28 +3,23 @@ use Prim.Native.Nat.{ℕ, _-_}
 use mathlib.Core.Path.{_≡_}
 use mathlib.Core.Bool.{false, not}
 use mathlib.Core.List.{List}
-use lib.Dec.{leb, eqb}
-use lib.ListN.{length, getD, set, take, drop, replicate}
-use Rattle.laws.specs.Pick.{pick}
-use Rattle.mirror.specs.Answer.{numberOf}
+use lib.Dec.{eqb}
+use lib.ListN.{length, take, drop, replicate}
+use Rattle.mirror.specs.Answer.{numberOf, countPlaces}
 use Rattle.mirror.specs.Table.{recordOf}
-use Rattle.mirror.specs.Run.{raised}
+use Rattle.mirror.specs.Run.{raised, tallied}
 use Rattle.mirror.specs.declared.panel.Panel.{Panel}
 use Rattle.mirror.specs.declared.record.Recorded.{Recorded}
 use Rattle.mirror.specs.declared.stream.Run.{Run}
 use Rattle.trace.specs.declared.records.Tally.{Tally}
 
--- one more of an answer's number, 0 to 7
-abbrev pub countsWith : List ℕ → ℕ → List ℕ
-countsWith counts n = pick (leb 8 n) counts (set counts n (raised (getD counts n 0)))
-
 -- before the first record
 abbrev pub tallyStart : Panel → Tally
-tallyStart p = record { panel = p; counts = replicate 8 0; records = 0; ended = 0; used = 0 }
+tallyStart p = record { panel = p; counts = replicate countPlaces 0; records = 0; ended = 0; used = 0 }
 
--- after a record: the panel that it left, and one more of its number
+-- after a record: the panel that it left, and one more of its answer
 abbrev pub tallyAfter : Tally → Recorded → Tally
-tallyAfter t r = record { panel = r .panel; counts = countsWith (t .counts) (numberOf (r .answer)); records = raised (t .records); ended = 0; used = t .used }
+tallyAfter t r = record { panel = r .panel; counts = tallied (t .counts) (r .answer); records = raised (t .records); ended = 0; used = t .used }
 
 -- after bytes that hold no record: the number of their answer ends the reading
 abbrev pub tallyOver : Tally → List ℕ → Tally

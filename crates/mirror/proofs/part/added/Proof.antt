@@ -10,10 +10,10 @@ use Rattle.mirror.proofs.part.added.Statement.{statement}
 use Rattle.mirror.proofs.part.added.Tie as tie
 
 abbrev Inv-loop : tie.InvT-loop
-Inv-loop part sums₀ i₀ sums i = (sums ≡ addedTo sums₀ (upTo i part)) × (i ≤ 8)
+Inv-loop part sums₀ i₀ sums i = (sums ≡ addedTo sums₀ (upTo i part)) × (i ≤ 9)
 
 abbrev μ-loop : tie.MeasureT-loop
-μ-loop part sums₀ i₀ sums i = 8 - i
+μ-loop part sums₀ i₀ sums i = 9 - i
 
 loop-holds : tie.Need-loop-holds Inv-loop μ-loop
 loop-holds c = (sym (added-none (c .args .counts) (c .args .t2)), omega arith)

@@ -38,6 +38,9 @@ array-read-t38 c = search needs
 array-read-t42 : tie.Need-array-read-t42
 array-read-t42 c = search needs
 
+array-read-t45 : tie.Need-array-read-t45
+array-read-t45 c = search needs
+
 returns : tie.Need-returns
 returns c = rw (c .address-of .ensures)
 
@@ -57,4 +60,5 @@ registers-of-spec =
     array-read-t34
     array-read-t38
     array-read-t42
+    array-read-t45
     returns)

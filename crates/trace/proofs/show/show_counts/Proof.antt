@@ -1,15 +1,16 @@
 use Prim.Native.Nat.{_-_, _≤_}
 use mathlib.Core.Path.{_≡_}
 use lib.ListN.{length}
+use Rattle.mirror.specs.Answer.{countPlaces}
 use borrow.Author.Needs.{needs}
 use Rattle.trace.proofs.show.show_counts.Statement.{statement}
 use Rattle.trace.proofs.show.show_counts.Tie as tie
 
 abbrev Inv-loop : tie.InvT-loop
-Inv-loop counts i₀ t5 i = (length counts ≡ 8) × (i ≤ 8)
+Inv-loop counts i₀ t5 i = (length counts ≡ countPlaces) × (i ≤ countPlaces)
 
 abbrev μ-loop : tie.MeasureT-loop
-μ-loop counts i₀ t5 i = 8 - i
+μ-loop counts i₀ t5 i = countPlaces - i
 
 slice-aggregate-show : tie.Need-slice-aggregate-show Inv-loop μ-loop
 slice-aggregate-show c = search needs

@@ -8,8 +8,8 @@ panel-requires c κs = search needs
 enum-known-reply : tie.Need-enum-known-reply
 enum-known-reply c = search needs
 
-number-requires : tie.Need-number-requires
-number-requires c κs = search needs
+clocked-requires : tie.Need-clocked-requires
+clocked-requires c κs = search needs
 
 enum-told : tie.Need-enum-told
 enum-told c = search needs
@@ -21,7 +21,7 @@ enum-told-3 : tie.Need-enum-told-3
 enum-told-3 c = search needs
 
 returns : tie.Need-returns
-returns c = rw (c .before .number .ensures, c .before .before .before .before .before .panel .ensures, c .before .before .before .reply .given .1)
+returns c = rw (c .before .clocked .ensures, c .before .before .before .before .before .panel .ensures, c .before .before .before .reply .given .1)
 
 returns-2 : tie.Need-returns-2
 returns-2 c = search needs
@@ -38,7 +38,7 @@ later-spec =
     (tie.spec
     panel-requires
     enum-known-reply
-    number-requires
+    clocked-requires
     enum-told
     enum-told-2
     enum-told-3

@@ -1,5 +1,6 @@
 use mathlib.Core.Path.{ap, _∙_}
-use Rattle.chip.specs.Step.{followed}
+use mathlib.Core.Bool.{false}
+use Rattle.chip.specs.Step.{nextGood, followed}
 use Rattle.chip.specs.laws.StepLaws.{written-as}
 use borrow.Author.Needs.{needs}
 use Rattle.chip.proofs.registers.Registers.write.Statement.{statement}
@@ -7,6 +8,9 @@ use Rattle.chip.proofs.registers.Registers.write.Tie as tie
 
 step-requires : tie.Need-step-requires
 step-requires c κs = search needs
+
+next-good-requires : tie.Need-next-good-requires
+next-good-requires c κs = search needs
 
 enum-known-a : tie.Need-enum-known-a
 enum-known-a c = search needs
@@ -29,19 +33,20 @@ followed-requires-2 c κs = search needs
 returns : tie.Need-returns
 returns c =
     rw (c .before .write .ensures)
-    (c .followed .ensures _ _ ∙ ap (followed (c .before .before .before .before .before .before .before .args .self .follow)) (c .before .before .before .before .before .before .step .ensures _ _) ∙
+    (c .followed .ensures _ _ ∙ ap (followed (c .before .before .before .before .before .before .before .before .args .self .follow)) (c .before .before .before .before .before .before .next-good .ensures _ _ ∙ ap (nextGood false) (c .before .before .before .before .before .before .before .step .ensures _ _)) ∙
     written-as _ _ _ (c .before .before .before .before .a .given .1))
 
 returns-2 : tie.Need-returns-2
 returns-2 c =
     rw (c .before .write2 .ensures)
-    (c .followed2 .ensures _ _ ∙ c .before .before .before .before .before .before .step .ensures _ _ ∙ written-as _ _ _ (c .before .before .before .before .a2 .given .1))
+    (c .followed2 .ensures _ _ ∙ c .before .before .before .before .before .before .next-good .ensures _ _ ∙ ap (nextGood false) (c .before .before .before .before .before .before .before .step .ensures _ _) ∙ written-as _ _ _ (c .before .before .before .before .a2 .given .1))
 
 pub write-spec : {M : Type 1} → statement M
 write-spec =
     tie.close
     (tie.spec
     step-requires
+    next-good-requires
     enum-known-a
     write-requires
     followed-requires

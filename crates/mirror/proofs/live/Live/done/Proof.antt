@@ -24,7 +24,7 @@ add-t15 c = search needs
 returns : tie.Need-returns
 returns c =
     let a = c .before .before .before .before .before .args in
-    carried (a .self) (c .before .before .before .before .pass .result) (a .registers) _ _ _ _ (c .before .before .before .before .pass .ensures) (record { which = c .before .before .before .patterned .ensures; display = c .before .before .display-part .ensures; pattern = c .before .pattern-part .ensures }) (c .modes-of .ensures)
+    carried (a .self) (c .before .before .before .before .pass .result) (a .registers) _ _ _ _ _ (c .before .before .before .before .pass .ensures) (record { which = c .before .before .before .patterned .ensures; display = c .before .before .display-part .ensures; pattern = c .before .pattern-part .ensures }) (c .modes-of .ensures)
 
 pub done-spec : {M : Type 1} → statement M
 done-spec =

@@ -22,7 +22,7 @@ returns c reads bus =
     let a = c .before .before .before .before .before .before .args in
     let q = panelOf (a .times) (a .self) (now (a .display)) (now (a .pattern)) in
     rw (c .before .before .before .before .if1 .taken)
-    (c .done .ensures _ _ _ ∙ done-as _ _ _ _ q _ _ _ (stepped-as (written (a .byte)) _ _ _ _ _ (c .before .write .ensures) (c .before .before .before .before .before .registers .ensures)) refl)
+    (c .done .ensures _ _ _ ∙ done-as _ _ _ _ q _ _ _ _ (stepped-as (written (a .byte)) _ _ _ _ _ (c .before .write .ensures) (c .before .before .before .before .before .registers .ensures)) refl)
 
 pass-requires : tie.Need-pass-requires
 pass-requires c κs = search needs
@@ -44,8 +44,8 @@ returns-3 c reads bus =
     let a = c .before .before .before .before .before .before .before .args in
     let q = panelOf (a .times) (a .self) (now (a .display)) (now (a .pattern)) in
     rw (c .before .before .before .before .before .if1 .left, ne-eqb _ _ (c .before .before .before .before .if2 .left))
-    (c .done2 .ensures _ _ _ ∙ span-as _ _ _ _ q _ _ (c .before .span .ensures)
-    ∙ done-as _ _ _ _ q _ _ _ (stepped-as (obeyed (a .byte)) _ _ _ _ _ (c .before .before .obey .ensures _) (c .before .before .before .before .before .before .registers .ensures)) refl)
+    (c .done2 .ensures _ _ _ ∙ span-as _ _ _ _ q _ _ _ (c .before .span .ensures)
+    ∙ done-as _ _ _ _ q _ _ _ _ (stepped-as (obeyed (a .byte)) _ _ _ _ _ (c .before .before .obey .ensures _) (c .before .before .before .before .before .before .registers .ensures)) refl)
 
 pub finish-spec : {M : Type 1} → statement M
 finish-spec =

@@ -1,6 +1,7 @@
 use denote.Ref.{now}
-use mathlib.Core.Path.{_∙_}
+use mathlib.Core.Path.{ap, _∙_}
 use mathlib.Core.List.{[]}
+use Rattle.laws.specs.Pick.{pick}
 use Rattle.mirror.specs.engine.Way.{Way}
 use Rattle.mirror.specs.engine.Live.{panelOf}
 use Rattle.mirror.specs.laws.RecordLaws.{first-as, held-as, read-as}
@@ -17,15 +18,18 @@ registers-requires c κs = search needs
 here-requires : tie.Need-here-requires
 here-requires c κs = search needs
 
+read-byte-requires : tie.Need-read-byte-requires
+read-byte-requires c κs = search needs
+
 offer-requires : tie.Need-offer-requires
 offer-requires c κs = search needs
 
 returns : tie.Need-returns
 returns c t byte =
-    let a = c .before .before .before .before .before .before .before .args in
+    let a = c .before .before .before .before .before .before .before .before .args in
     let q = panelOf t (a .self) (now (a .display)) (now (a .pattern)) in
-    first-as (a .self) (now (a .display)) (now (a .pattern)) _ _ _ _ _ _ Way.HoldRead (rw (c .before .before .before .before .before .before .if1 .taken, c .before .before .before .before .before .if2 .taken, ← c .before .before .before .before .free .ensures, c .before .before .before .if3 .taken))
-    (c .offer .ensures _ _ _ ∙ held-as _ _ _ q _ _ (read-as _ _ _ _ _ (c .before .here .ensures) (c .before .before .registers .ensures)))
+    first-as (a .self) (now (a .display)) (now (a .pattern)) _ _ _ _ _ _ Way.HoldRead (rw (c .before .before .before .before .before .before .before .if1 .taken, c .before .before .before .before .before .before .if2 .taken, ← c .before .before .before .before .before .free .ensures, c .before .before .before .before .if3 .taken))
+    (c .offer .ensures _ _ _ ∙ held-as _ _ _ q _ _ (c .before .read-byte .ensures ∙ ap (λ b. pick (a .self .good) b 0) (read-as _ _ _ _ _ (c .before .before .here .ensures) (c .before .before .before .registers .ensures))))
 
 miss-requires : tie.Need-miss-requires
 miss-requires c κs = search needs
@@ -74,6 +78,7 @@ first-spec =
     free-requires
     registers-requires
     here-requires
+    read-byte-requires
     offer-requires
     returns
     miss-requires

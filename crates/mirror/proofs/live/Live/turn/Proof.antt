@@ -63,7 +63,7 @@ returns-4 c =
     let a = c .before .before .before .before .before .before .before .before .before .before .before .args in
     let q = panelOf (a .times) (a .self) (now (a .display)) (now (a .pattern)) in
     rw (← c .before .before .before .before .before .before .before .before .before .frame .ensures, c .before .before .before .before .before .before .before .f2 .given .1, ← c .before .before .before .before .before .back .ensures, c .before .before .before .before .if1 .left)
-    (c .done .ensures _ _ _ ∙ done-as _ _ _ _ q _ _ _ (c .before .fresh .ensures) refl)
+    (c .done .ensures _ _ _ ∙ done-as _ _ _ _ q _ _ _ _ (c .before .fresh .ensures) refl)
 
 returns-5 : tie.Need-returns-5
 returns-5 c = rw (← c .before .before .before .before .before .before .frame .ensures, c .before .before .before .before .f3 .given .1, ← c .before .before .back2 .ensures, c .before .if2 .taken) (c .refuse4 .ensures _ _ _)

@@ -1,11 +1,11 @@
 use Rattle.mirror.specs.Run.{tallied}
 use borrow.Author.Tests.{le-ltb, lt-ltb}
 use borrow.Author.Needs.{needs}
-use Rattle.mirror.proofs.totals.tally.Statement.{statement}
-use Rattle.mirror.proofs.totals.tally.Tie as tie
+use Rattle.mirror.proofs.count.tally.Statement.{statement}
+use Rattle.mirror.proofs.count.tally.Tie as tie
 
-number-requires : tie.Need-number-requires
-number-requires c κs = search needs
+place-requires : tie.Need-place-requires
+place-requires c κs = search needs
 
 cast-n : tie.Need-cast-n
 cast-n c = search needs
@@ -27,17 +27,17 @@ element-write-counts c = search needs
 
 returns : tie.Need-returns
 unfolding tallied
-returns c = rw (c .raise .ensures, ← c .before .before .before .number .ensures, lt-ltb _ _ (c .before .before .if1 .taken))
+returns c = rw (c .raise .ensures, ← c .before .before .before .place .ensures, lt-ltb _ _ (c .before .before .if1 .taken))
 
 returns-2 : tie.Need-returns-2
 unfolding tallied
-returns-2 c = rw (← c .before .number .ensures, le-ltb _ _ (c .if1 .left))
+returns-2 c = rw (← c .before .place .ensures, le-ltb _ _ (c .if1 .left))
 
 pub tally-spec : {M : Type 1} → statement M
 tally-spec =
     tie.close
     (tie.spec
-    number-requires
+    place-requires
     cast-n
     mul-raise
     element-copy-out-raise
