@@ -199,6 +199,7 @@ const WALL_EXAMPLE: &str = "\
 text |W               |
 codes 57 20 20 20 20 20 20 20 20 20 20 20 20 20 20 20
 cursor 1
+written 00
 ";
 
 const REPORT_EXAMPLE: &str = "\
@@ -278,6 +279,7 @@ width 8 function 0
 busy 1780 last 1780
 half none
 good 0
+written 00000001
 ";
 
 fn four_trace() -> String {

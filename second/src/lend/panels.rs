@@ -9,6 +9,7 @@ use crate::log::TIME_LIMIT;
 use crate::panel::{Half, Panel, Times, BUSY_END_LIMIT};
 use crate::panel_file;
 use crate::random::Random;
+use crate::written::Written;
 
 /// Panels sound and unsound, and bytes that are no panel.
 pub fn some_bytes(random: &mut Random, turn: u64) -> Vec<u8> {
@@ -61,6 +62,7 @@ fn sound_sheet(random: &mut Random, chip: Chip, width: Width) -> Sheet {
     Sheet {
         chip,
         display,
+        written: Written::walk(&display),
         pattern: std::array::from_fn(|_| random.byte() & 31),
         counter: if random.flag() {
             Counter::Display(DisplayAddress(some_place(random, chip.places() as u8 - 1)))
@@ -130,7 +132,7 @@ fn spoil(random: &mut Random, panel: &mut Panel, way: u64) {
         // Of two lines it is the chip that is wrong for what the second holds.
         _ => {
             sheet.chip = Chip::ONE_LINE;
-            sheet.display[16 + random.below(16) as usize] = random.pick(&[0x00, 0x21, 0xA0, 0xFF]);
+            sheet.store(16 + random.below(16) as usize, random.pick(&[0x00, 0x21, 0xA0, 0xFF]));
         }
     }
 }
@@ -141,7 +143,8 @@ fn no_panel(random: &mut Random, panel: &Panel, way: u64) -> Vec<u8> {
     let flag_places = [65, 68, 69, 70, 71, 72, 98, 99, 101];
     match way % 18 {
         0 => bytes.truncate(random.pick(&[0, 84])),
-        1 => bytes.truncate(random.pick(&[100, 101])),
+        // Without the bits it would be a panel of before.
+        1 => bytes.truncate(random.pick(&[101, 102, 102, 105])),
         2 => bytes.push(0),
         sort @ 3..=11 => bytes[flag_places[sort as usize - 3]] = random.pick(&[2, 255]),
         12 => bytes[73] = random.pick(&[0, 5, 16, 255]),
@@ -159,7 +162,7 @@ fn plain(chip: Chip) -> Panel {
     let mut panel = Panel::fresh(chip, Times::USUAL);
     (panel.sheet.d, panel.sheet.c, panel.sheet.shift) = (true, true, 3);
     for at in (0..chip.places()).step_by(15) {
-        panel.sheet.display[at] = 0x41 + at as u8;
+        panel.sheet.store(at, 0x41 + at as u8);
     }
     panel
 }
@@ -184,7 +187,7 @@ pub fn where_chips_part() -> Vec<Vec<u8>> {
     let mut panels = Vec::new();
     for place in 16..32 {
         let mut panel = plain(Chip::ONE_LINE);
-        panel.sheet.display[place] = [0x00, 0x21, 0x41, 0xFF][place % 4];
+        panel.sheet.store(place, [0x00, 0x21, 0x41, 0xFF][place % 4]);
         panels.push(panel);
         let mut panel = plain(Chip::ONE_LINE);
         panel.sheet.counter = Counter::Display(DisplayAddress(place as u8));
