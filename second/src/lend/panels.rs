@@ -2,18 +2,20 @@
 //! of the ways that the rules name, and bytes that are no panel.
 
 use super::some_times;
+use super::written::{self, Memory};
 use crate::chip::{Counter, DisplayAddress, PatternAddress, Sheet, Width};
-use crate::chips::{Chip, DISPLAY_SIZE};
+use crate::chips::Chip;
 use crate::classes::UNKNOWN_CHIPS;
 use crate::log::TIME_LIMIT;
 use crate::panel::{Half, Panel, Times, BUSY_END_LIMIT};
 use crate::panel_file;
 use crate::random::Random;
-use crate::written::Written;
+use crate::written::{Written, SPACE};
 
 /// Panels sound and unsound, and bytes that are no panel.
 pub fn some_bytes(random: &mut Random, turn: u64) -> Vec<u8> {
-    let mut panel = sound_panel(random);
+    let chip = random.pick(&Chip::KNOWN);
+    let mut panel = sound_panel(random, chip);
     match turn % 6 {
         0 | 3 => {
             spoil(random, &mut panel, turn / 3);
@@ -28,7 +30,7 @@ pub fn some_bytes(random: &mut Random, turn: u64) -> Vec<u8> {
     }
 }
 
-fn sound_panel(random: &mut Random) -> Panel {
+pub fn sound_panel(random: &mut Random, chip: Chip) -> Panel {
     let width = random.pick(&[Width::Eight, Width::Four, Width::Four]);
     let size = random.below(40);
     let last = match random.below(6) {
@@ -43,7 +45,6 @@ fn sound_panel(random: &mut Random) -> Panel {
         2 => last,
         _ => last + random.below(65_536),
     };
-    let chip = random.pick(&Chip::KNOWN);
     Panel {
         sheet: sound_sheet(random, chip, width),
         times: some_times(random),
@@ -54,11 +55,8 @@ fn sound_panel(random: &mut Random) -> Panel {
 }
 
 fn sound_sheet(random: &mut Random, chip: Chip, width: Width) -> Sheet {
-    let codes = [0x00, 0x03, 0x07, 0x0F, 0x10, 0x20, 0x41, 0xFF];
-    let mut display = [0x20; DISPLAY_SIZE];
-    for byte in &mut display[..chip.places()] {
-        *byte = if random.flag() { random.byte() } else { random.pick(&codes) };
-    }
+    let memory = random.pick(&[Memory::Full, Memory::Full, Memory::Empty, Memory::Mixed, Memory::Mixed]);
+    let display = written::bytes(random, chip, memory);
     Sheet {
         chip,
         display,
@@ -97,7 +95,7 @@ fn sound_half(random: &mut Random) -> Option<Half> {
 }
 
 /// In how many ways a panel is made unsound.
-const WAYS: u64 = 13;
+const WAYS: u64 = 14;
 
 /// Makes a panel unsound in one of the ways that the rules name.
 fn spoil(random: &mut Random, panel: &mut Panel, way: u64) {
@@ -129,10 +127,15 @@ fn spoil(random: &mut Random, panel: &mut Panel, way: u64) {
         9 => panel.last = random.pick(&[TIME_LIMIT, u64::MAX]),
         10 => panel.busy_end = random.pick(&[BUSY_END_LIMIT, u64::MAX]),
         11 => sheet.chip = Chip(random.pick(&UNKNOWN_CHIPS)),
+        12 => written::disagree(random, sheet),
         // Of two lines it is the chip that is wrong for what the second holds.
         _ => {
             sheet.chip = Chip::ONE_LINE;
-            sheet.store(16 + random.below(16) as usize, random.pick(&[0x00, 0x21, 0xA0, 0xFF]));
+            let place = 16 + random.below(16) as usize;
+            sheet.store(place, random.pick(&[0x00, 0x21, 0xA0, 0xFF]));
+            if random.flag() {
+                sheet.written.store(place, SPACE);
+            }
         }
     }
 }
@@ -247,7 +250,7 @@ mod tests {
     fn bytes_that_are_no_panel() {
         let mut random = Random::new(1, 1);
         for way in 0..200 {
-            let panel = sound_panel(&mut random);
+            let panel = sound_panel(&mut random, Chip::KNOWN[way as usize % 2]);
             assert!(panel_file::read(&no_panel(&mut random, &panel, way)).is_err(), "way {way}");
         }
     }
