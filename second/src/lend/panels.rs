@@ -128,15 +128,18 @@ fn spoil(random: &mut Random, panel: &mut Panel, way: u64) {
         10 => panel.busy_end = random.pick(&[BUSY_END_LIMIT, u64::MAX]),
         11 => sheet.chip = Chip(random.pick(&UNKNOWN_CHIPS)),
         12 => written::disagree(random, sheet),
-        // Of two lines it is the chip that is wrong for what the second holds.
-        _ => {
-            sheet.chip = Chip::ONE_LINE;
-            let place = 16 + random.below(16) as usize;
-            sheet.store(place, random.pick(&[0x00, 0x21, 0xA0, 0xFF]));
-            if random.flag() {
-                sheet.written.store(place, SPACE);
-            }
-        }
+        _ => write_past_one_line(random, sheet),
+    }
+}
+
+/// A byte that one line does not have, with its bit or without. Where there were two
+/// lines, it is the chip that is wrong for what the second holds.
+fn write_past_one_line(random: &mut Random, sheet: &mut Sheet) {
+    sheet.chip = Chip::ONE_LINE;
+    let place = 16 + random.below(16) as usize;
+    sheet.store(place, random.pick(&[0x00, 0x21, 0xA0, 0xFF]));
+    if random.flag() {
+        sheet.written.store(place, SPACE);
     }
 }
 
