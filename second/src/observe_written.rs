@@ -101,7 +101,8 @@ impl Places {
     fn bad(&mut self, step: &Step) {
         if let [12, 0, 1, 0, .., control, data] = *step.record {
             if is_data_write(control & 1 != 0, control & 2 != 0) {
-                self.leave_unwritten(step.before, "bad data write", data);
+                let what = if control > 3 { "data write of a bad control" } else { "data write of a bad time" };
+                self.leave_unwritten(step.before, what, data);
             }
         }
     }

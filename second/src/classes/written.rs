@@ -14,12 +14,12 @@ const OVER: [&str; 4] = [
 ];
 
 /// All of these leave a written place and a space alone, at both widths.
-const LEFT: [&str; 27] = [
+const LEFT: [&str; 28] = [
     "pattern write", "taken display read", "doubtful display read", "taken pattern read", "doubtful pattern read",
     "display address", "pattern address", "move up", "move down", "shift left", "shift right", "display bits",
     "entry bits", "to width 4", "to width 8", "Home 02h", "Home 03h", "none 00h", "status read",
     "ignored display write", "ignored pattern write", "ignored read", "ignored address set", "ignored cursor move",
-    "ignored instruction", "back data write", "bad data write",
+    "ignored instruction", "back data write", "data write of a bad control", "data write of a bad time",
 ];
 const LEFT_NARROW: [&str; 4] =
     ["torn data write", "torn by a data write", "torn ignored data write", "held data write"];

@@ -4,7 +4,7 @@
 
 use super::{Habits, Sender};
 use crate::chip::Width;
-use crate::log;
+use crate::log::{self, TIME_LIMIT};
 use crate::panel::{Half, Panel};
 use crate::random::Random;
 use crate::written::SPACE;
@@ -98,7 +98,7 @@ pub fn send_what_leaves_the_bits(random: &mut Random, panel: Panel) -> Vec<Vec<u
 }
 
 /// In how many ways the bits are left alone.
-const LEAVING: u64 = 36;
+const LEAVING: u64 = 37;
 
 impl Sender<'_> {
     /// A byte at this place, whatever the entry bits are.
@@ -143,7 +143,8 @@ impl Sender<'_> {
             31 => self.emit(log::write_transfer(self.panel.last.saturating_sub(1), 0, 0x01)),
             32 => self.emit(log::write_reset(self.panel.last.saturating_sub(1))),
             33 => self.emit(log::write_transfer(self.panel.last, 5, other)),
-            34 => self.tear_a_write(other, true),
+            34 => self.emit(log::write_transfer(TIME_LIMIT, 1, other)),
+            35 => self.tear_a_write(other, true),
             _ => self.tear_a_write(other, false),
         }
     }
