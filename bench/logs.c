@@ -1,6 +1,6 @@
 // logs KIND RECORDS CHIP: writes a log for the benchmark to standard output, for a box with the chip 6631 or 6635. Kinds: eight
 // (width 8, mostly taken writes, with polling), four (width 4, in halves), damage (random damage to eight), reads (width 8, a
-// third of it data reads, good and doubtful).
+// third of it data reads, good and doubtful), writes (width 8, nearly all of it data writes into display memory).
 #include <stdint.h>
 #include <stdio.h>
 #include <stdlib.h>
@@ -74,16 +74,26 @@ static transfer reading(int places) {
     return t;
 }
 
+// Data writes into display memory, all of them taken, one byte in four a space; about one transfer in sixteen sets an address.
+static transfer storing(int places) {
+    transfer t = {1, next() % 4 ? 0x21 + next() % 94 : 0x20, 40};
+    if (next() % 16 == 0) {
+        t.control = 0;
+        t.byte = 0x80 + next() % places;
+    }
+    return t;
+}
+
 int main(int argc, char **argv) {
     if (argc != 4) return 2;
-    int four = !strcmp(argv[1], "four"), reads = !strcmp(argv[1], "reads");
+    int four = !strcmp(argv[1], "four"), reads = !strcmp(argv[1], "reads"), writes = !strcmp(argv[1], "writes");
     long records = atol(argv[2]);
     int places = strcmp(argv[3], "6635") ? 16 : 32;
     uint64_t time = 0;
     damaged = !strcmp(argv[1], "damage");
     if (four) record(time, 0, 0x20);
     while (records > 0) {
-        transfer t = reads ? reading(places) : writing(places);
+        transfer t = reads ? reading(places) : writes ? storing(places) : writing(places);
         if (four) {
             record(time, t.control, t.byte & 0xF0);
             record(time + 1, t.control, t.byte << 4 & 0xF0);

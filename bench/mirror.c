@@ -1,7 +1,8 @@
 // The mirror's logic in plain C, written for speed: the twin that `glazomir` is measured against. It reads a log on
 // standard input in blocks of 32 KiB and prints the same thirteen lines. It serves both chips, as the mirror does: `chip 6635`
 // has two lines. The last place of display memory, 15 or 31, is handed in beside the panel: in it, it would be read again
-// after every byte that is stored.
+// after every byte that is stored. It keeps the bits of the written places, as the mirror does, and at the end walks display
+// memory and ends with 1 where they disagree: a compiler could leave out bits that nothing asks for.
 #include <stdint.h>
 #include <stdio.h>
 #include <string.h>
@@ -14,6 +15,7 @@ enum { RESET_TIME = 10000, LONG_TIME = 1640, SHORT_TIME = 40 };
 
 typedef struct {
     uint64_t busy, last, counts[COUNTS], records;
+    uint32_t written;
     uint8_t display[32], pattern[32];
     uint8_t in_pattern, address, shift, good;
     uint8_t up, follow, on, cursor, blink, eight, function;
@@ -23,6 +25,7 @@ typedef struct {
 static void fresh(panel *p) {
     memset(p->display, 0x20, sizeof p->display);
     memset(p->pattern, 0, sizeof p->pattern);
+    p->written = 0;
     p->in_pattern = p->address = p->shift = p->good = 0;
     p->up = 1;
     p->follow = p->on = p->cursor = p->blink = 0;
@@ -66,6 +69,7 @@ static inline void obey(panel *p, uint8_t last_place, uint8_t code) {
     } else {
         if (code == 0x01) {
             memset(p->display, 0x20, sizeof p->display);
+            p->written = 0;
             p->up = 1;
         }
         p->in_pattern = p->address = p->shift = p->good = 0;
@@ -78,7 +82,10 @@ static inline void store(panel *p, uint8_t last_place, uint8_t byte) {
         p->pattern[p->address] = byte & 31;
         step(p, last_place, p->up);
     } else {
+        uint32_t bit = (uint32_t)1 << p->address;
         p->display[p->address] = byte;
+        p->written &= ~bit;
+        if (byte != 0x20) p->written |= bit;
         step(p, last_place, p->up);
         if (p->follow) p->shift = (p->shift + (p->up ? 1 : 15)) & 15;
     }
@@ -203,6 +210,13 @@ static size_t consume(panel *p, uint8_t last_place, const uint8_t *log, size_t n
     return at;
 }
 
+// Bit a is set exactly when the byte at address a isn't 20h.
+static uint32_t walked(const panel *p) {
+    uint32_t bits = 0;
+    for (int a = 0; a < 32; a++) bits |= (uint32_t)(p->display[a] != 0x20) << a;
+    return bits;
+}
+
 static uint8_t block[32768 + 66];
 
 int main(int argc, char **argv) {
@@ -223,4 +237,7 @@ int main(int argc, char **argv) {
     printf("cut %d\n%s %02X\ncodes", cut || kept, p.in_pattern ? "pattern" : "address", p.address);
     for (int i = 0; i <= last_place; i++) printf(" %02X", p.display[i]);
     printf("\n");
+    if (p.written == walked(&p)) return 0;
+    fprintf(stderr, "mirror_c: the bits of the written places disagree with display memory\n");
+    return 1;
 }

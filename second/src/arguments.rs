@@ -231,16 +231,16 @@ mod tests {
         fs::remove_file(&path).expect("it was written");
     }
 
-    /// What the last byte says is the panel's own too; a file of before, which is
-    /// without it, is no panel.
+    /// What a file says in its last five bytes is the panel's own too; one of before,
+    /// which is without them, is no panel.
     #[test]
     fn a_panel_that_is_good_or_not() {
         let path = std::env::temp_dir().join(format!("second-good-{}", std::process::id()));
         let words = split(&format!("panel {}", path.display()));
         let fresh = panel_file::write(&usual(35));
         for (last, expected) in [
-            (&[0][..], Ok(false)), (&[1], Ok(true)), (&[2], Err("good")), (&[255], Err("good")),
-            (&[], Err("size of the file")), (&[0, 0], Err("size of the file")),
+            (&[0, 0, 0, 0, 0][..], Ok(false)), (&[1, 0, 0, 0, 0], Ok(true)), (&[2, 0, 0, 0, 0], Err("good")),
+            (&[255, 0, 0, 0, 0], Err("good")), (&[], Err("size of the file")), (&[0], Err("size of the file")),
         ] {
             fs::write(&path, [&fresh[..101], last].concat()).expect("a temporary file");
             assert_eq!(trace(&words).map(|lent| lent.panel.sheet.good), expected, "{last:?}");

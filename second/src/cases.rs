@@ -1,9 +1,10 @@
 //! The rules' own cases A to M, the examples of the report and of the wall, the
-//! sample night, and the four-record example; those of two lines and of the read
-//! after a write by themselves.
+//! sample night, and the four-record example; those of two lines, of the read after
+//! a write and of the written places by themselves.
 
 mod reads;
 mod two_lines;
+mod written;
 
 use crate::arguments;
 use crate::chip::{Counter, DisplayAddress, PatternAddress, Sheet};
@@ -62,6 +63,7 @@ fn fresh(chip: Chip) -> Panel {
 pub fn all() -> Vec<Case> {
     let mut all = two_lines::all();
     all.extend(reads::all());
+    all.extend(written::all());
     all.extend(busy_and_halves());
     all.extend(steps());
     all.extend(reports());
@@ -199,6 +201,7 @@ const WALL_EXAMPLE: &str = "\
 text |W               |
 codes 57 20 20 20 20 20 20 20 20 20 20 20 20 20 20 20
 cursor 1
+written 00
 ";
 
 const REPORT_EXAMPLE: &str = "\
@@ -278,6 +281,7 @@ width 8 function 0
 busy 1780 last 1780
 half none
 good 0
+written 00000001
 ";
 
 fn four_trace() -> String {

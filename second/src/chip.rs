@@ -1,8 +1,9 @@
-//! The sheet's machine: two memories, the address, the shift and the
-//! settings. It has no clock and knows no half transfers. How far display
-//! memory reaches goes by the chip's lines; everything else is the same.
+//! The sheet's machine: two memories, which places of one are written, the address,
+//! the shift and the settings. It has no clock and knows no half transfers. How far
+//! display memory reaches goes by the chip's lines; everything else is the same.
 
 use crate::chips::{Chip, DISPLAY_SIZE, LINE};
+use crate::written::{Written, SPACE};
 
 /// A place in display memory, 0 to 15 on one line and 0 to 31 on two.
 #[derive(Clone, Copy, Debug, PartialEq)]
@@ -68,6 +69,8 @@ pub struct Sheet {
     pub chip: Chip,
     /// Bytes past the chip's own are 20h.
     pub display: [u8; DISPLAY_SIZE],
+    /// The places of display memory that hold no space.
+    pub written: Written,
     pub pattern: [u8; 32],
     pub counter: Counter,
     /// One for all lines: each shifts within itself.
@@ -100,7 +103,8 @@ impl Sheet {
     pub fn fresh(chip: Chip) -> Sheet {
         Sheet {
             chip,
-            display: [0x20; DISPLAY_SIZE],
+            display: [SPACE; DISPLAY_SIZE],
+            written: Written::NOWHERE,
             pattern: [0; 32],
             counter: Counter::Display(DisplayAddress(0)),
             shift: 0,
@@ -182,7 +186,8 @@ impl Sheet {
 
     /// S stays as it is; only I/D is set.
     fn clear(&mut self) {
-        self.display = [0x20; DISPLAY_SIZE];
+        self.display = [SPACE; DISPLAY_SIZE];
+        self.written = Written::NOWHERE;
         self.home();
         self.i_d = true;
     }
@@ -196,10 +201,16 @@ impl Sheet {
         self.shift = around(self.shift, left, LINE as u8);
     }
 
+    /// Puts a byte into display memory, and keeps its place's bit with it.
+    pub fn store(&mut self, place: usize, byte: u8) {
+        self.display[place] = byte;
+        self.written.store(place, byte);
+    }
+
     fn write(&mut self, byte: u8) {
         match self.counter {
             Counter::Display(DisplayAddress(at)) => {
-                self.display[usize::from(at)] = byte;
+                self.store(usize::from(at), byte);
                 if self.s {
                     self.shift_display(self.i_d);
                 }
@@ -218,3 +229,5 @@ mod good;
 mod tests;
 #[cfg(test)]
 mod two_lines;
+#[cfg(test)]
+mod written;

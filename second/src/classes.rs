@@ -6,6 +6,7 @@ mod lines;
 mod reads;
 mod report;
 mod wall;
+mod written;
 
 use crate::chips::Chip;
 pub use lines::UNKNOWN_CHIPS;
@@ -146,6 +147,7 @@ pub fn of_chip(chip: Chip) -> Vec<String> {
     all.extend(RECORD_BY_RECORD.map(|class| format!("records: {class}")));
     all.extend(lines::of_chip(chip));
     all.extend(reads::of_every_chip());
+    all.extend(written::of_chip(chip));
     all.extend(prefixed(REPORT, &report::of_every_chip()));
     all.extend(prefixed(WALL, &wall::of_chip(chip)));
     all.extend(prefixed(GLAZOMIR, &lines::of_glazomir(chip)));

@@ -76,13 +76,17 @@ pub fn strike(log: &[u8], answers: &[Answer]) -> Vec<u8> {
     left
 }
 
-/// Checks demand 3 and the sum of the counts from a fresh panel.
+/// Checks demand 3, the sum of the counts and soundness from a fresh panel.
 pub fn check(chip: Chip, times: Times, log: &[u8]) -> Result<(), &'static str> {
     let fresh = Panel::fresh(chip, times);
     let mut panel = fresh.clone();
     let run = panel::run(&mut panel, log);
     if run.counts.iter().sum::<u64>() != run.records {
         return Err("the nine counts do not add up to the records");
+    }
+    // The bits of the written places, kept step by step, are those of a walk.
+    if !panel.is_sound() {
+        return Err("the panel is not sound after the run");
     }
     if replay(chip, log, &run.answers) != panel.sheet {
         return Err("the replay ends with another sheet");
@@ -170,6 +174,22 @@ mod tests {
             let answers = panel::run(&mut panel, &log).answers;
             assert_eq!((panel.sheet.good, replay(Chip::TWO_LINES, &log, &answers).good), (good, good));
             assert_eq!(check(Chip::TWO_LINES, Times::USUAL, &log), Ok(()));
+        }
+    }
+
+    /// The replay keeps the bits too: 57h, an ignored 57h, 8Fh, 57h, 80h, a space, and
+    /// then the same behind a reset.
+    #[test]
+    fn the_written_places_end_the_same() {
+        let sent = [(0, 1, 0x57), (39, 1, 0x57), (40, 0, 0x8F), (80, 1, 0x57), (120, 0, 0x80), (160, 1, 0x20)];
+        let once = log::write_transfers(&sent);
+        let again = [once.clone(), log::write_reset(200), log::write_transfer(10_200, 1, 0x57)].concat();
+        for (log, number) in [(once, 0x0000_8000), (again, 0x0000_0001)] {
+            let mut panel = Panel::fresh(Chip::ONE_LINE, Times::USUAL);
+            let answers = panel::run(&mut panel, &log).answers;
+            let replayed = replay(Chip::ONE_LINE, &log, &answers);
+            assert_eq!((panel.sheet.written.number(), replayed.written.number()), (number, number));
+            assert_eq!(check(Chip::ONE_LINE, Times::USUAL, &log), Ok(()));
         }
     }
 

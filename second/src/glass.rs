@@ -1,6 +1,10 @@
 //! Trials for `wall`: a log that sets the glass on purpose, a font of random
 //! bytes, so that a turned or mirrored glyph shows, and often a time to look at.
 
+mod written;
+
+pub use written::places_by_time;
+
 use crate::cases;
 use crate::chips::Chip;
 use crate::generator::{self, Trial};

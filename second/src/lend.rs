@@ -5,6 +5,7 @@
 //! none is left out.
 
 pub mod panels;
+pub mod written;
 
 use crate::chips::Chip;
 use crate::panel::{Panel, Times};

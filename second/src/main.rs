@@ -1,9 +1,9 @@
 //! The second program: a model of the mirror, written from the rules alone,
 //! and the comparison of the model with the built programs.
 //!
-//! The model: `log`, `chips`, `chip`, `panel`, `picture`, `prints`, `demands`,
-//! with `panel_file` and `arguments` for what a run is lent, and `cases`. The
-//! report: `report`, and `again` for what was written again. The glass: `wall`.
+//! The model: `log`, `chips`, `chip`, `written`, `panel`, `picture`, `prints`,
+//! `demands`, with `panel_file` and `arguments` for what a run is lent, and `cases`.
+//! The report: `report`, and `again` for what was written again. The glass: `wall`.
 //! The trials: `random`, `lend`, `sender`, `generator`, and `glass` for `wall`.
 //! The comparison: `questions`, `expected`, `start`, `compare`, `shrink`,
 //! `findings`, and the `commands` that run it; `classes` lists what the questions
@@ -26,13 +26,16 @@ mod glass;
 mod lend;
 mod log;
 mod observe;
+mod observe_bits;
 mod observe_lent;
 mod observe_lines;
 mod observe_reads;
 mod observe_report;
 mod observe_unknown;
 mod observe_wall;
+mod observe_wall_places;
 mod observe_words;
+mod observe_written;
 mod panel;
 mod panel_file;
 mod picture;
@@ -45,6 +48,7 @@ mod sender;
 mod shrink;
 mod start;
 mod wall;
+mod written;
 
 use report::page;
 use std::io::{self, Read, Write};

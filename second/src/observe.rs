@@ -8,6 +8,7 @@ use crate::log::{self, Message, Transfer, TIME_LIMIT};
 use crate::observe_lent;
 use crate::observe_lines;
 use crate::observe_reads::{self, Trail};
+use crate::observe_written::Places;
 use crate::panel::number::*;
 use crate::panel::{is_status, Answer, Half, Panel};
 use crate::questions::Question;
@@ -17,7 +18,7 @@ use crate::start::Feed;
 /// One record with the panel on either side of it.
 pub struct Step<'a> {
     pub before: &'a Panel,
-    record: &'a [u8],
+    pub record: &'a [u8],
     pub answer: Answer,
     pub after: &'a Panel,
 }
@@ -32,6 +33,22 @@ struct Memory {
     wrong_wait: u64,
     /// What became of whether the next read is good.
     trail: Trail,
+    /// What became of each place's bit.
+    places: Places,
+}
+
+impl Memory {
+    fn new(question: &Question, start: &Panel) -> Memory {
+        let ways = ways(question, start);
+        let is_handed_in = question.trial.gives("panel");
+        Memory {
+            first: None,
+            latest: None,
+            wrong_wait: 0,
+            trail: Trail::new(if is_handed_in { HANDED_IN } else { FRESH_START }, ways.clone()),
+            places: Places::new(is_handed_in, ways),
+        }
+    }
 }
 
 /// Notes what a question to `trace` reaches; `lent` is the refusal where there
@@ -48,13 +65,18 @@ pub fn question(reach: &mut Reach, question: &Question, lent: Result<&Lent, &str
         observe_lent::by_records(reach, question, lent);
     }
     if lent.panel.is_sound() {
-        let panel = run(reach, &lent.panel, log, trail(question, &lent.panel));
+        let mut memory = Memory::new(question, &lent.panel);
+        let panel = run(reach, &lent.panel, log, &mut memory);
+        memory.places.end(reach, lent, &panel);
+        let is_untouched = lent.panel.is_fresh() && log.is_empty();
+        reach.note_if(is_untouched && panel.sheet.written.number() == 0, "no place of a fresh panel is written");
         observe_lent::painting(reach, lent, &panel);
         observe_reads::end(reach, &panel);
     }
 }
 
-fn trail(question: &Question, start: &Panel) -> Trail {
+/// How the run is made, in the words of the classes.
+fn ways(question: &Question, start: &Panel) -> Vec<&'static str> {
     let mut ways = Vec::new();
     if start.is_fresh() {
         ways.push(FROM_FRESH);
@@ -65,24 +87,24 @@ fn trail(question: &Question, start: &Panel) -> Trail {
     if matches!(question.feed, Feed::Pieces(_)) {
         ways.push(IN_PIECES);
     }
-    Trail::new(if question.trial.gives("panel") { HANDED_IN } else { FRESH_START }, ways)
+    ways
 }
 
-fn run(reach: &mut Reach, start: &Panel, log: &[u8], trail: Trail) -> Panel {
+fn run(reach: &mut Reach, start: &Panel, log: &[u8], memory: &mut Memory) -> Panel {
     let (records, cut) = log::records(log);
-    let mut memory = Memory { first: None, latest: None, wrong_wait: 0, trail };
     let mut panel = start.clone();
     for record in &records {
         let before = panel.clone();
         let answer = panel.answer(record);
         let step = Step { before: &before, record, answer, after: &panel };
         reach.note(&format!("answer {}", answer.number));
+        memory.places.record(&step, log::message(record));
         match log::message(record) {
             None => {
                 bad(reach, &step);
                 memory.trail.pass_over(&before, "bad record");
             }
-            Some(message) => usable(reach, &step, &mut memory, message),
+            Some(message) => usable(reach, &step, memory, message),
         }
         if !matches!(answer.number, BACK | BAD) {
             memory.latest = Some(answer.number);

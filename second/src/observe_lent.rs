@@ -5,6 +5,7 @@ use crate::arguments::Lent;
 use crate::chip::{Counter, DisplayAddress, PatternAddress};
 use crate::generator::Trial;
 use crate::log::{self, TIME_LIMIT};
+use crate::observe_bits;
 use crate::observe_lines;
 use crate::observe_unknown;
 use crate::observe_words;
@@ -23,6 +24,7 @@ pub fn lent(reach: &mut Reach, trial: &Trial, lent: &Lent) {
         reach.note_if(trial.gives("times"), "panel and times");
         panel_at_its_limits(reach, &lent.panel);
         observe_lines::handed_in(reach, trial, &lent.panel);
+        observe_bits::handed_in(reach, trial, lent, &faults);
     } else {
         observe_words::given(reach, "", trial);
     }

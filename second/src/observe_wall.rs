@@ -6,6 +6,7 @@ use crate::chips::LINE;
 use crate::classes::WALL;
 use crate::glass::{self, Moment};
 use crate::log::{self, Message, TIME_LIMIT};
+use crate::observe_wall_places;
 use crate::observe_words;
 use crate::panel::Panel;
 use crate::picture::{self, Place};
@@ -25,6 +26,7 @@ pub fn question(reach: &mut Reach, question: &Question, asked: Result<Asked, &st
     observe_words::given(reach, WALL, &question.trial);
     let shown = wall::shown(&asked.start, log, asked.at);
     screen(reach, &asked, &shown.panel.sheet);
+    observe_wall_places::written(reach, &asked, &shown, log);
     ends(reach, &asked, &shown, log);
     if let Some(time) = asked.at {
         let moments = glass::moments(&asked.start, log);

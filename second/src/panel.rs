@@ -4,6 +4,7 @@
 use crate::chip::{Counter, DisplayAddress, Entry, PatternAddress, Sheet, Width};
 use crate::chips::Chip;
 use crate::log::{self, Front, Message, Transfer, TIME_LIMIT};
+use crate::written::{Written, SPACE};
 
 /// A busy end lies below this: the last time there is, and the longest wait.
 pub const BUSY_END_LIMIT: u64 = TIME_LIMIT + 65_536;
@@ -107,8 +108,12 @@ pub fn faults(panel: &Panel) -> Vec<&'static str> {
     if !sheet.chip.is_known() {
         found.push("chip");
     }
-    if sheet.display[places..].iter().any(|&byte| byte != 0x20) {
+    if sheet.display[places..].iter().any(|&byte| byte != SPACE) {
         found.push("byte past the chip's own");
+    }
+    // All bits, on one line those past its own places too.
+    if sheet.written != Written::walk(&sheet.display) {
+        found.push("written places");
     }
     match sheet.counter {
         Counter::Display(DisplayAddress(at)) if usize::from(at) >= places => found.push("display address"),
@@ -321,3 +326,5 @@ mod good;
 mod tests;
 #[cfg(test)]
 mod two_lines;
+#[cfg(test)]
+mod written;

@@ -1,10 +1,11 @@
-//! A panel as a file of 102 bytes, so that a run can start from any panel.
+//! A panel as a file of 106 bytes, so that a run can start from any panel.
 
 use crate::chip::{Counter, DisplayAddress, PatternAddress, Sheet, Width};
 use crate::chips::Chip;
 use crate::panel::{Half, Panel, Times};
+use crate::written::Written;
 
-pub const SIZE: usize = 102;
+pub const SIZE: usize = 106;
 
 /// Reads a panel, sound or not; the error says why the bytes are no panel.
 pub fn read(bytes: &[u8]) -> Result<Panel, &'static str> {
@@ -20,6 +21,7 @@ pub fn read(bytes: &[u8]) -> Result<Panel, &'static str> {
     let sheet = Sheet {
         chip: Chip(bytes[0]),
         display: bytes[1..33].try_into().expect("32 bytes"),
+        written: Written::from_bytes(bytes[102..106].try_into().expect("4 bytes")),
         pattern: bytes[33..65].try_into().expect("32 bytes"),
         counter: if in_pattern {
             Counter::Pattern(PatternAddress(bytes[66]))
@@ -89,6 +91,7 @@ pub fn write(panel: &Panel) -> Vec<u8> {
         Some(Half { rs, rw, nibble: Some(nibble) }) => [2, u8::from(rs), u8::from(rw), nibble],
     });
     bytes.push(u8::from(sheet.good));
+    bytes.extend(sheet.written.bytes());
     bytes
 }
 
@@ -101,6 +104,7 @@ mod tests {
         for (chip, good) in [(Chip::ONE_LINE, true), (Chip::TWO_LINES, false), (Chip(0), true), (Chip(255), false)] {
             let mut panel = Panel::fresh(chip, Times::USUAL);
             panel.sheet.good = good;
+            panel.sheet.written = Written::from_bytes([0x12, 0x34, 0x56, 0x78]);
             panel.sheet.display = std::array::from_fn(|at| at as u8);
             panel.half = Some(Half { rs: true, rw: false, nibble: Some(255) });
             panel.sheet.counter = Counter::Pattern(PatternAddress(99));
@@ -112,9 +116,9 @@ mod tests {
     /// Every byte another, where it may be: each is read from its own place.
     #[test]
     fn each_byte_has_its_place() {
-        let mut bytes: Vec<u8> = (0..102).collect();
+        let mut bytes: Vec<u8> = (0..106).collect();
         bytes[65..=74].copy_from_slice(&[1, 66, 67, 0, 1, 0, 1, 0, 4, 74]);
-        bytes[97..].copy_from_slice(&[2, 1, 0, 100, 1]);
+        bytes[97..102].copy_from_slice(&[2, 1, 0, 100, 1]);
         let panel = read(&bytes).expect("a panel");
         let sheet = &panel.sheet;
         assert_eq!((sheet.chip, sheet.counter, sheet.shift), (Chip(0), Counter::Pattern(PatternAddress(66)), 67));
@@ -127,17 +131,30 @@ mod tests {
         assert_eq!(panel.busy_end.to_le_bytes(), [81, 82, 83, 84, 85, 86, 87, 88]);
         assert_eq!(panel.last.to_le_bytes(), [89, 90, 91, 92, 93, 94, 95, 96]);
         assert_eq!(panel.half, Some(Half { rs: true, rw: false, nibble: Some(100) }));
+        assert_eq!(sheet.written.number(), 102 + (103 << 8) + (104 << 16) + (105 << 24));
         assert_eq!(write(&panel), bytes);
         bytes[101] = 0;
         assert_eq!(read(&bytes).map(|panel| panel.sheet.good), Ok(false));
+    }
+
+    /// A disagreement makes a panel unsound, and a panel all the same.
+    #[test]
+    fn any_bits_are_a_panel() {
+        let mut bytes = write(&Panel::fresh(Chip::ONE_LINE, Times::USUAL));
+        for (last, number) in [([0; 4], 0), ([1, 0, 0, 0], 1), ([0, 0, 0, 1], 1 << 24), ([0xFF; 4], u32::MAX)] {
+            bytes[102..].copy_from_slice(&last);
+            let panel = read(&bytes).expect("a panel");
+            assert_eq!((panel.sheet.written.number(), panel.is_sound()), (number, number == 0));
+            assert_eq!(write(&panel), bytes);
+        }
     }
 
     #[test]
     fn what_is_no_panel() {
         let good = write(&Panel::fresh(Chip::TWO_LINES, Times::USUAL));
         assert!(read(&good).is_ok());
-        // Without its last byte it would be a panel of before.
-        for size in [0, 84, 100, 101, 103] {
+        // Without the bits it would be a panel of before.
+        for size in [0, 84, 101, 102, 103, 104, 105, 107, 110] {
             let mut bytes = good.clone();
             bytes.resize(size, 0);
             assert_eq!(read(&bytes), Err("size of the file"));
@@ -149,7 +166,7 @@ mod tests {
                 assert!(read(&bytes).is_err(), "byte {place}");
             }
         }
-        assert_eq!(read(&[&good[..101], &[2]].concat()), Err("good"));
+        assert_eq!(read(&[&good[..101], &[2, 0, 0, 0, 0]].concat()), Err("good"));
         for (place, byte) in [(73, 5), (97, 3), (98, 1), (99, 1), (100, 1)] {
             let mut bytes = good.clone();
             bytes[place] = byte;

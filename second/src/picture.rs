@@ -137,7 +137,7 @@ mod tests {
     fn showing(code: u8, address: usize) -> Panel {
         let mut panel = Panel::fresh(Chip::ONE_LINE, Times::USUAL);
         panel.sheet.d = true;
-        panel.sheet.display[address] = code;
+        panel.sheet.store(address, code);
         panel
     }
 

@@ -45,6 +45,7 @@ pub fn trace(lent: &Lent, log: &[u8]) -> String {
     line(&mut print, format_args!("busy {} last {}", panel.busy_end, panel.last));
     line(&mut print, format_args!("half {}", half(panel.half)));
     line(&mut print, format_args!("good {}", u8::from(panel.sheet.good)));
+    line(&mut print, format_args!("written {:08X}", panel.sheet.written.number()));
     pictures(&mut print, lent, &panel);
     print
 }
@@ -137,6 +138,7 @@ mod tests {
     use super::*;
     use crate::arguments;
     use crate::log;
+    use crate::written::Written;
 
     /// The lines of `trace` for a log, without the panel and the pictures.
     fn lines(lent: &Lent, log: &[u8]) -> Vec<String> {
@@ -208,11 +210,11 @@ mod tests {
     fn a_doubtful_read_and_what_it_leaves() {
         let mut log = log::write_transfer(0, 3, 0);
         assert_eq!(lines(&usual(), &log)[..3], ["11 00", "records 1", "cut 0"]);
-        assert!(trace(&usual(), &log).contains("\nhalf none\ngood 1\nframe 0 "));
+        assert!(trace(&usual(), &log).contains("\nhalf none\ngood 1\nwritten 00000000\nframe 0 "));
         assert!(glazomir(&usual().panel, &log).starts_with("records 1\ntaken 0\ndoubtful 1\nheld 0\n"));
         log.extend(log::write_transfer(40, 1, 0x41));
         assert!(trace(&usual(), &log).contains("\ncounts 1 1 0 0 0 0 0 0 0\n"));
-        assert!(trace(&usual(), &log).contains("\nhalf none\ngood 0\nframe 0 "));
+        assert!(trace(&usual(), &log).contains("\nhalf none\ngood 0\nwritten 00000002\nframe 0 "));
     }
 
     /// Of a panel that is refused, too, what it says is printed.
@@ -221,7 +223,25 @@ mod tests {
         for (good, line) in [(false, "good 0"), (true, "good 1")] {
             let mut lent = unsound();
             lent.panel.sheet.good = good;
-            assert!(trace(&lent, &log::write_transfer(0, 3, 0)).contains(&format!("\nhalf none\n{line}\nframe 0 ")));
+            let lines = format!("\nhalf none\n{line}\nwritten 00000000\nframe 0 ");
+            assert!(trace(&lent, &log::write_transfer(0, 3, 0)).contains(&lines));
+        }
+    }
+
+    /// The bits as they stand, of a panel that they make unsound too, and of one that
+    /// is unsound for another reason.
+    #[test]
+    fn the_bits_of_a_refused_panel() {
+        for (shift, bytes, line) in [
+            (0, [1, 0, 0, 0], "written 00000001"), (16, [0, 0, 0, 0x80], "written 80000000"),
+            (16, [0; 4], "written 00000000"), (0, [0xEF, 0xCD, 0xAB, 0x89], "written 89ABCDEF"),
+        ] {
+            let mut lent = usual();
+            (lent.panel.sheet.shift, lent.panel.sheet.written) = (shift, Written::from_bytes(bytes));
+            let print = trace(&lent, &log::write_reset(0));
+            assert!(print.starts_with("refused 10\nrecords 1\ncut 0\n"), "{line}");
+            assert!(print.contains("\nsound 0\nchip 31\ndisplay 20 "), "{line}");
+            assert!(print.contains(&format!("\ngood 0\n{line}\nframe 0 refused 10 ")), "{line}");
         }
     }
 
@@ -229,7 +249,7 @@ mod tests {
     fn lent_by(chip: u8) -> Lent {
         let mut lent = usual();
         lent.panel.sheet.chip = Chip(chip);
-        lent.panel.sheet.display[0] = 0x41;
+        lent.panel.sheet.store(0, 0x41);
         lent.frame_size = lent.panel.sheet.chip.frame_size();
         lent
     }

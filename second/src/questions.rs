@@ -1,6 +1,8 @@
 //! What the built programs are asked: questions that are always the same but
 //! for the seed, and those of each of the generator's turns.
 
+mod written;
+
 use crate::cases;
 use crate::chip::Width;
 use crate::chips::Chip;
@@ -57,6 +59,7 @@ pub fn fixed(seed: u64) -> Vec<Question> {
     questions.extend(of_the_wall(seed));
     questions.extend(panels());
     questions.extend(reads(seed));
+    questions.extend(written::all(seed));
     questions.extend(fresh_panels(seed));
     questions.extend(unreadable(seed));
     questions.extend(help());
@@ -175,6 +178,7 @@ fn of_the_wall(seed: u64) -> Vec<Question> {
     let mut whole = [glass::example_and_edges(), glass::two_lines_by_time(), glass::refused(seed)].concat();
     whole.extend(glass::doubtful_reads_by_time());
     whole.extend(Chip::KNOWN.into_iter().flat_map(|chip| glass::shifts(seed, chip)));
+    whole.extend(Chip::KNOWN.into_iter().flat_map(glass::places_by_time));
     questions.extend(whole.into_iter().map(|trial| ask(trial, Feed::Whole)));
     questions
 }

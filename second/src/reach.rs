@@ -22,6 +22,26 @@ struct Codes {
     read: [[bool; 256]; 4],
     /// Codes that `wall` showed with the display on.
     shown: [bool; 256],
+    /// Bytes whose write turned over a bit that was printed, by width.
+    laid: [[bool; 256]; 2],
+    /// Bytes in display memory of sound panels that were handed in.
+    handed_in: [bool; 256],
+}
+
+impl Codes {
+    const NONE: Codes = Codes {
+        sent: [[false; 256]; 4],
+        read: [[false; 256]; 4],
+        shown: [false; 256],
+        laid: [[false; 256]; 2],
+        handed_in: [false; 256],
+    };
+
+    /// All that is there to be seen, list by list.
+    fn lists(&mut self) -> impl Iterator<Item = &mut [bool; 256]> {
+        let Codes { sent, read, shown, laid, handed_in } = self;
+        sent.iter_mut().chain(read).chain([shown]).chain(laid).chain([handed_in])
+    }
 }
 
 impl Default for Reach {
@@ -33,8 +53,7 @@ impl Default for Reach {
 impl Reach {
     pub fn new() -> Reach {
         let classes = wanted().into_iter().map(|class| (class, 0)).collect();
-        let none = Codes { sent: [[false; 256]; 4], read: [[false; 256]; 4], shown: [false; 256] };
-        Reach { classes, chip: Chip::ONE_LINE, codes: [none; 2] }
+        Reach { classes, chip: Chip::ONE_LINE, codes: [Codes::NONE; 2] }
     }
 
     /// What is noted from here on is of this chip.
@@ -89,15 +108,25 @@ impl Reach {
         }
     }
 
+    pub fn note_byte_laid(&mut self, wide: bool, byte: u8) {
+        if let Some(codes) = self.codes() {
+            codes.laid[usize::from(wide)][usize::from(byte)] = true;
+        }
+    }
+
+    pub fn note_byte_handed_in(&mut self, byte: u8) {
+        if let Some(codes) = self.codes() {
+            codes.handed_in[usize::from(byte)] = true;
+        }
+    }
+
     pub fn merge(&mut self, other: &Reach) {
         for (class, count) in &other.classes {
             *self.classes.get_mut(class).expect("the same list") += count;
         }
-        for (mine, theirs) in self.codes.iter_mut().zip(&other.codes) {
-            let seen = mine.sent.iter_mut().chain(&mut mine.read).flatten().chain(&mut mine.shown);
-            let theirs = theirs.sent.iter().chain(&theirs.read).flatten().chain(&theirs.shown);
-            for (mine, theirs) in seen.zip(theirs) {
-                *mine |= theirs;
+        for (mine, mut theirs) in self.codes.iter_mut().zip(other.codes) {
+            for (mine, theirs) in mine.lists().flatten().zip(theirs.lists().flatten()) {
+                *mine |= *theirs;
             }
         }
     }
@@ -114,6 +143,10 @@ impl Reach {
                 table.push((of(&format!("all 256 codes before a read, width {width}, {was}"), chip), all(read)));
             }
             table.push((of(&format!("{WALL}all 256 codes"), chip), all(&codes.shown)));
+            for (width, laid) in [4, 8].into_iter().zip(&codes.laid) {
+                table.push((of(&format!("all 256 bytes turn a bit over, width {width}"), chip), all(laid)));
+            }
+            table.push((of("all 256 bytes handed in", chip), all(&codes.handed_in)));
         }
         table
     }

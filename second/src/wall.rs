@@ -1,5 +1,5 @@
 //! What `wall` prints: the glass at the end of a log or at a time, drawn, and
-//! as text, codes and the cursor's place. docs/WALL.md says it.
+//! as text, codes, the cursor's place and the written places. docs/WALL.md says it.
 
 use crate::chip::Sheet;
 use crate::chips::LINE;
@@ -79,7 +79,8 @@ fn drawing(frame: &[u8]) -> String {
     print + &edge
 }
 
-/// The text of every line, then the codes of every line, then the cursor.
+/// The text of every line, then the codes of every line, the cursor, and the
+/// written places of all lines together.
 fn lines(sheet: &Sheet) -> String {
     let (mut texts, mut all_codes) = (String::new(), String::new());
     for line in 0..sheet.chip.lines() {
@@ -88,7 +89,7 @@ fn lines(sheet: &Sheet) -> String {
         texts += &format!("text |{text}|\n");
         all_codes += &format!("codes {}\n", spaced(&codes));
     }
-    format!("{texts}{all_codes}cursor {}\n", cursor(sheet))
+    format!("{texts}{all_codes}cursor {}\nwritten {}\n", cursor(sheet), written(sheet))
 }
 
 /// With one line there is no need to say which.
@@ -101,6 +102,12 @@ fn cursor(sheet: &Sheet) -> String {
     }
 }
 
+/// Addresses of memory, whatever the shift, and hidden by nothing.
+fn written(sheet: &Sheet) -> String {
+    let places: Vec<u8> = sheet.written.places().into_iter().map(|place| place as u8).collect();
+    if places.is_empty() { "-".to_string() } else { spaced(&places) }
+}
+
 fn character(code: u8) -> char {
     match code {
         0x20..=0x7E => char::from(code),
@@ -110,6 +117,8 @@ fn character(code: u8) -> char {
 
 #[cfg(test)]
 mod two_lines;
+#[cfg(test)]
+mod written;
 
 #[cfg(test)]
 mod tests {
@@ -139,7 +148,9 @@ mod tests {
     /// The codes 80h to 8Fh by address, shifted so that position 0 shows 83h.
     fn shifted() -> Sheet {
         let mut sheet = Sheet::fresh(Chip::ONE_LINE);
-        sheet.display[..16].copy_from_slice(&std::array::from_fn::<u8, 16, _>(|at| 0x80 + at as u8));
+        for place in 0..16 {
+            sheet.store(place, 0x80 + place as u8);
+        }
         sheet.shift = 3;
         sheet
     }
@@ -147,12 +158,13 @@ mod tests {
     #[test]
     fn positions_are_counted_from_the_shift() {
         let mut sheet = shifted();
-        sheet.display[2] = b'c';
-        sheet.display[3] = b'd';
+        sheet.store(2, b'c');
+        sheet.store(3, b'd');
         let print = lines(&sheet);
         assert_eq!(
             print,
-            "text |d..............c|\ncodes 64 84 85 86 87 88 89 8A 8B 8C 8D 8E 8F 80 81 63\ncursor off\n"
+            "text |d..............c|\ncodes 64 84 85 86 87 88 89 8A 8B 8C 8D 8E 8F 80 81 63\ncursor off\n\
+             written 00 01 02 03 04 05 06 07 08 09 0A 0B 0C 0D 0E 0F\n"
         );
     }
 
@@ -171,13 +183,13 @@ mod tests {
             let mut sheet = shifted();
             (sheet.d, sheet.c, sheet.b) = (d, c, b);
             sheet.counter = Counter::Display(DisplayAddress(1));
-            let cursor = if is_shown { "cursor 14\n" } else { "cursor off\n" };
-            assert!(lines(&sheet).ends_with(cursor), "{d} {c} {b}");
+            let cursor = if is_shown { "\ncursor 14\n" } else { "\ncursor off\n" };
+            assert!(lines(&sheet).contains(cursor), "{d} {c} {b}");
         }
         let mut sheet = shifted();
         (sheet.d, sheet.c) = (true, true);
         sheet.counter = Counter::Pattern(PatternAddress(21));
-        assert!(lines(&sheet).ends_with("cursor 2\n"), "(21 mod 16 - 3) mod 16");
+        assert!(lines(&sheet).contains("\ncursor 2\n"), "(21 mod 16 - 3) mod 16");
     }
 
     #[test]
@@ -224,7 +236,7 @@ mod tests {
         ] {
             let shown = shown(&fresh(), log, Some(at));
             assert_eq!(shown.before, before, "at {at}");
-            assert!(lines(&shown.panel.sheet).ends_with(&format!("cursor {cursor}\n")), "at {at}");
+            assert!(lines(&shown.panel.sheet).contains(&format!("\ncursor {cursor}\n")), "at {at}");
         }
     }
 

@@ -16,7 +16,7 @@ abbrev pub sheetOf : Registers → List ℕ → List ℕ → Sheet
 sheetOf r d p = record { registers = r; display = d; pattern = p }
 
 -- fresh, of a chip: display memory all 20h, pattern memory all 0, address 0 in display memory, shift 0, I/D = 1, S = D = C = B = 0, width 8, Function Set bits 0;
--- the next read is not good (document 02, wish 2)
+-- the next read is not good (document 02, wish 2), and no place is written (wish 3)
 abbrev pub freshRegisters : ℕ → Registers
 freshRegisters chip =
     record {
@@ -31,6 +31,7 @@ freshRegisters chip =
       eight = true;
       function = 0;
       good = false;
+      written = 0;
     }
 
 abbrev pub freshSheet : ℕ → Sheet
@@ -72,19 +73,22 @@ withPattern p s = sheetOf (s .registers) (s .display) p
 
 -- registers with what is set together set anew
 abbrev pub withAddress : Address → Registers → Registers
-withAddress a r = record { chip = r .chip; address = a; shift = r .shift; up = r .up; follow = r .follow; on = r .on; cursor = r .cursor; blink = r .blink; eight = r .eight; function = r .function; good = r .good }
+withAddress a r = record { chip = r .chip; address = a; shift = r .shift; up = r .up; follow = r .follow; on = r .on; cursor = r .cursor; blink = r .blink; eight = r .eight; function = r .function; good = r .good; written = r .written }
 
 abbrev pub withShift : ℕ → Registers → Registers
-withShift n r = record { chip = r .chip; address = r .address; shift = n; up = r .up; follow = r .follow; on = r .on; cursor = r .cursor; blink = r .blink; eight = r .eight; function = r .function; good = r .good }
+withShift n r = record { chip = r .chip; address = r .address; shift = n; up = r .up; follow = r .follow; on = r .on; cursor = r .cursor; blink = r .blink; eight = r .eight; function = r .function; good = r .good; written = r .written }
 
 abbrev pub withEntry : Bool → Bool → Registers → Registers
-withEntry i s r = record { chip = r .chip; address = r .address; shift = r .shift; up = i; follow = s; on = r .on; cursor = r .cursor; blink = r .blink; eight = r .eight; function = r .function; good = r .good }
+withEntry i s r = record { chip = r .chip; address = r .address; shift = r .shift; up = i; follow = s; on = r .on; cursor = r .cursor; blink = r .blink; eight = r .eight; function = r .function; good = r .good; written = r .written }
 
 abbrev pub withScreen : Bool → Bool → Bool → Registers → Registers
-withScreen d c b r = record { chip = r .chip; address = r .address; shift = r .shift; up = r .up; follow = r .follow; on = d; cursor = c; blink = b; eight = r .eight; function = r .function; good = r .good }
+withScreen d c b r = record { chip = r .chip; address = r .address; shift = r .shift; up = r .up; follow = r .follow; on = d; cursor = c; blink = b; eight = r .eight; function = r .function; good = r .good; written = r .written }
 
 abbrev pub withFunction : Bool → ℕ → Registers → Registers
-withFunction width bits r = record { chip = r .chip; address = r .address; shift = r .shift; up = r .up; follow = r .follow; on = r .on; cursor = r .cursor; blink = r .blink; eight = width; function = bits; good = r .good }
+withFunction width bits r = record { chip = r .chip; address = r .address; shift = r .shift; up = r .up; follow = r .follow; on = r .on; cursor = r .cursor; blink = r .blink; eight = width; function = bits; good = r .good; written = r .written }
 
 abbrev pub withGood : Bool → Registers → Registers
-withGood b r = record { chip = r .chip; address = r .address; shift = r .shift; up = r .up; follow = r .follow; on = r .on; cursor = r .cursor; blink = r .blink; eight = r .eight; function = r .function; good = b }
+withGood b r = record { chip = r .chip; address = r .address; shift = r .shift; up = r .up; follow = r .follow; on = r .on; cursor = r .cursor; blink = r .blink; eight = r .eight; function = r .function; good = b; written = r .written }
+
+abbrev pub withWritten : ℕ → Registers → Registers
+withWritten bits r = record { chip = r .chip; address = r .address; shift = r .shift; up = r .up; follow = r .follow; on = r .on; cursor = r .cursor; blink = r .blink; eight = r .eight; function = r .function; good = r .good; written = bits }

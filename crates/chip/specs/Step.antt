@@ -1,13 +1,18 @@
--- What each step does to the sheet (document 01, "Steps"), and whether a read right after it is good (document 02, wish 2).
-use Prim.Native.Nat.{ℕ}
+-- What each step does to the sheet (document 01, "Steps"), whether a read right after it is good, and which places are then written
+-- (document 02, wishes 2 and 3).
+use Prim.Native.Nat.{ℕ, _%_}
 use mathlib.Core.Bool.{Bool, true, false}
+use mathlib.Core.List.{List}
 use lib.ListN.{replicate}
 use Rattle.laws.specs.Pick.{pick}
 use Rattle.laws.specs.Ring.{moved}
-use Rattle.chip.specs.Sizes.{positions, displaySize, space}
+use Rattle.laws.specs.Bit.{withBit}
+use Rattle.chip.specs.Sizes.{positions, placesOf, displaySize, space}
 use Rattle.chip.specs.Address.{display, movedAddress, inDisplay, writtenDisplay, writtenPattern}
-use Rattle.chip.specs.Sheet.{onRegisters, withDisplay, withPattern, withAddress, withShift, withEntry, withScreen, withFunction, withGood}
+use Rattle.chip.specs.Sheet.{onRegisters, withDisplay, withPattern, withAddress, withShift, withEntry, withScreen, withFunction, withGood, withWritten}
+use Rattle.chip.specs.Written.{isWritten}
 use Rattle.chip.specs.Instruction.{decoded}
+use Rattle.chip.specs.declared.address.DisplayAddress.{DisplayAddress}
 use Rattle.chip.specs.declared.address.Address.{Address}
 use Rattle.chip.specs.declared.address.Address.the-variants.{Display, Pattern}
 use Rattle.chip.specs.declared.instruction.Instruction.{Instruction}
@@ -18,9 +23,9 @@ use Rattle.chip.specs.declared.sheet.Sheet.{Sheet}
 abbrev pub homed : Sheet → Sheet
 homed s = onRegisters (λ r. withAddress (Display (display 0)) (withShift 0 r)) s
 
--- Clear: 20h everywhere in display memory, display address 0, shift 0, I/D = 1; S stays
+-- Clear: 20h everywhere in display memory, so no place is written, display address 0, shift 0, I/D = 1; S stays
 abbrev pub cleared : Sheet → Sheet
-cleared s = withDisplay (replicate displaySize space) (onRegisters (withEntry true (s .registers .follow)) (homed s))
+cleared s = withDisplay (replicate displaySize space) (onRegisters (λ r. withWritten 0 (withEntry true (s .registers .follow) r)) (homed s))
 
 -- the entry bits I/D and S
 abbrev pub entered : Bool → Bool → Sheet → Sheet
@@ -67,9 +72,19 @@ acted (Set a) s = nextGood true (addressSet a s)
 abbrev pub obeyed : ℕ → Sheet → Sheet
 obeyed code s = acted (decoded (s .registers .chip) code) s
 
--- a byte stored at the address, in the memory that it points into
+-- the bit of a display address, as display memory then has it: set exactly when its byte isn't 20h; all other bits stay
+abbrev pub markedAt : DisplayAddress → List ℕ → Sheet → Sheet
+markedAt a memory s =
+    let place = a .0 % placesOf (s .registers .chip) in
+    onRegisters (withWritten (withBit displaySize place (isWritten memory place) (s .registers .written))) s
+
+-- a byte stored in display memory, with the bit of its address
+abbrev pub storedDisplay : DisplayAddress → ℕ → Sheet → Sheet
+storedDisplay a byte s = let memory = writtenDisplay (s .registers .chip) a byte (s .display) in markedAt a memory (withDisplay memory s)
+
+-- a byte stored at the address, in the memory that it points into; a pattern sets no bit
 abbrev pub storedAt : Address → ℕ → Sheet → Sheet
-storedAt (Display a) byte s = withDisplay (writtenDisplay (s .registers .chip) a byte (s .display)) s
+storedAt (Display a) byte s = storedDisplay a byte s
 storedAt (Pattern a) byte s = withPattern (writtenPattern a byte (s .pattern)) s
 
 -- the display shifts with the address where told: left if I/D = 1, right if 0

@@ -4,3 +4,4 @@ pub mod instruction;
 pub mod registers;
 pub mod sheet;
 pub mod sizes;
+pub mod written;

@@ -2,7 +2,7 @@
 // copied; together with the memories as they then stand, the answer is the meaning's step of the whole sheet.
 ghost use mathlib.Core.Path.{_≡_};
 ghost use Rattle.chip.specs.Sheet.{Starts, Steps, StepsDisplay, StepsBoth, freshSheet, readHere};
-ghost use Rattle.chip.specs.Step.{cleared, homed, entered, screenSet, stepped, shifted, functionSet, addressSet, nextGood, followed, written, passed, acted, obeyed};
+ghost use Rattle.chip.specs.Step.{cleared, homed, entered, screenSet, stepped, shifted, functionSet, addressSet, nextGood, markedAt, followed, written, passed, acted, obeyed};
 use crate::address::Address;
 use crate::address::DisplayAddress;
 use crate::address::step_round;
@@ -12,6 +12,8 @@ use crate::sizes::DISPLAY_SIZE;
 use crate::sizes::PATTERN_SIZE;
 use crate::sizes::POSITIONS;
 use crate::sizes::SPACE;
+use crate::sizes::places;
+use crate::written::with_bit;
 
 // All of the sheet but its memories.
 pub struct Registers {
@@ -33,6 +35,8 @@ pub struct Registers {
     pub function: u8,
     // Whether the next read is good.
     pub good: bool,
+    // Which places are written: bit a is display address a.
+    pub written: u32,
 }
 
 impl Registers {
@@ -58,6 +62,7 @@ impl Registers {
             eight: true,
             function: 0,
             good: false,
+            written: 0,
         }
     }
 
@@ -65,11 +70,13 @@ impl Registers {
         ensures { λ r. ⌜ StepsDisplay cleared self (now (display .entry)) r (now (display .exit)) ⌝ }
     {
         *display = [SPACE; DISPLAY_SIZE];
+        let written = 0;
         Registers {
             address: Address::Display(DisplayAddress(0)),
             shift: 0,
             up: true,
             follow: self.follow,
+            written,
             ..self
         }
     }
@@ -202,6 +209,18 @@ impl Registers {
         self.step(self.up).next_good(true).followed(false)
     }
 
+    // The bit of a place, as display memory now has it.
+    fn mark(self, at: DisplayAddress, display: &[u8; DISPLAY_SIZE]) -> Registers
+        ensures { λ r. ⌜ Steps (markedAt at (now (display .entry))) self r ⌝ }
+    {
+        let place = at.0 as usize % places(self.chip);
+        let byte = at.read(self.chip, display);
+        Registers {
+            written: with_bit(self.written, place, byte != SPACE),
+            ..self
+        }
+    }
+
     // A data write shifts with S = 1, and in display memory alone.
     pub fn write(
         self,
@@ -216,7 +235,7 @@ impl Registers {
         match a {
             Address::Display(d) => {
                 d.write(self.chip, byte, display);
-                moved.followed(self.follow)
+                moved.mark(d, display).followed(self.follow)
             }
             Address::Pattern(p) => {
                 p.write(byte, pattern);

@@ -12,6 +12,7 @@ use crate::sizes::ROW_END;
 use crate::sizes::SPACE;
 use crate::sizes::known;
 use crate::sizes::places;
+use crate::written::agree;
 
 pub struct Sheet {
     pub registers: Registers,
@@ -93,6 +94,9 @@ impl Sheet {
             return false;
         }
         if !blank_past(r.chip, display) {
+            return false;
+        }
+        if !agree(r.written, display) {
             return false;
         }
         pattern_fits(pattern)

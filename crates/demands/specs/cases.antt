@@ -1,9 +1,10 @@
 pub mod Logs
 pub mod Naive
-pub mod Cases
 pub mod RowCases
+pub mod Cases
 pub mod StepCases
 pub mod GoodCases
+pub mod WrittenCases
 pub mod HalfCases
 pub mod AnswerCases
 pub mod RunCases

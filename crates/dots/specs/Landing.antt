@@ -4,7 +4,7 @@ use mathlib.Core.Path.{_≡_}
 use mathlib.Core.Bool.{Bool, true, _&&_}
 use mathlib.Core.List.{List}
 use lib.ListN.{getD}
-use Rattle.dots.specs.Bit.{bit, one, pack}
+use Rattle.laws.specs.Bit.{bit, one, pack}
 use Rattle.dots.specs.Table.{table, sum}
 
 pub record Landing : Type 0 where

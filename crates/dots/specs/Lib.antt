@@ -1,4 +1,3 @@
-pub mod Bit
 pub mod Table
 pub mod Landing
 pub mod ByRows

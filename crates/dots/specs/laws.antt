@@ -1,6 +1,5 @@
 pub mod PartsLaws
 pub mod ColumnLaws
-pub mod BitLaws
 pub mod TableLaws
 pub mod LandingLaws
 pub mod CellsLaws

@@ -9,6 +9,7 @@ pub mod Promise
 pub mod Answers
 pub mod Busy
 pub mod Good
+pub mod Written
 pub mod engine
 pub mod laws
 pub mod cases

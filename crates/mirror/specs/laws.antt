@@ -14,5 +14,7 @@ pub mod HalfLaws
 pub mod SoundLaws
 pub mod TypedLaws
 pub mod BusyLaws
+pub mod CarriedLaws
 pub mod GoodLaws
 pub mod AskedLaws
+pub mod WrittenLaws

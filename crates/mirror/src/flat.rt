@@ -73,8 +73,15 @@ pub(crate) fn modes_of(registers: Registers) -> Modes
 }
 
 // The registers put together again.
-pub(crate) fn registers(chip: u8, a: Address, shift: u8, good: bool, modes: Modes) -> Registers
-    ensures { λ r. ⌜ r ≡ registersWith chip a shift good modes ⌝ }
+pub(crate) fn registers(
+    chip: u8,
+    a: Address,
+    shift: u8,
+    good: bool,
+    written: u32,
+    modes: Modes,
+) -> Registers
+    ensures { λ r. ⌜ r ≡ registersWith chip a shift good written modes ⌝ }
 {
     Registers {
         chip,
@@ -88,5 +95,6 @@ pub(crate) fn registers(chip: u8, a: Address, shift: u8, good: bool, modes: Mode
         eight: modes.eight,
         function: modes.function,
         good,
+        written,
     }
 }

@@ -10,3 +10,4 @@ pub mod record;
 pub mod stream;
 mod totals;
 mod transfer;
+pub mod written;

@@ -46,6 +46,8 @@ pub struct Live {
     pub answer: Answer,
     pub byte: u8,
     pub used: usize,
+    // Which places are written. Last, where carrying them costs nothing (docs/DECISIONS.md, "Speed").
+    pub written: u32,
 }
 
 // How long an instruction keeps the chip busy: Clear and Return Home are below 04h.
@@ -70,6 +72,7 @@ impl Live {
             pattern: pattern_part(a),
             shift: r.shift,
             good: r.good,
+            written: r.written,
             modes: modes_of(r),
             busy: panel.busy,
             waits: 2,
@@ -111,7 +114,14 @@ impl Live {
         ensures { λ r. ⌜ r ≡ registersOf self ⌝ }
     {
         let m = self.modes;
-        registers(self.chip, self.address(), self.shift, self.good, m)
+        registers(
+            self.chip,
+            self.address(),
+            self.shift,
+            self.good,
+            self.written,
+            m,
+        )
     }
 
     fn half(self) -> Half
@@ -267,6 +277,7 @@ impl Live {
             pattern: pattern_part(a),
             shift: registers.shift,
             good: registers.good,
+            written: registers.written,
             modes: modes_of(registers),
             busy: time + span as u64,
             ..left

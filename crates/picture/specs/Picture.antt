@@ -4,7 +4,7 @@ use mathlib.Core.Bool.{Bool, _&&_, _||_}
 use mathlib.Core.List.{List}
 use lib.Dec.{eqb}
 use lib.ListN.{getD}
-use Rattle.dots.specs.Bit.{bit}
+use Rattle.laws.specs.Bit.{bit}
 use Rattle.dots.specs.Table.{table}
 use Rattle.chip.specs.Sizes.{positions}
 use Rattle.chip.specs.Address.{display, readDisplay}

@@ -1,5 +1,5 @@
 -- A panel file (docs/TRACE.md, "A panel file"): which bytes are one, and the panel that they hold.
-use Prim.Native.Nat.{ℕ, _+_}
+use Prim.Native.Nat.{ℕ, _+_, _*_, _^_}
 use mathlib.Core.Bool.{Bool, false, _&&_, _||_}
 use mathlib.Core.List.{List}
 use lib.Dec.{ltb, eqb}
@@ -23,6 +23,10 @@ byteIn b i = getD b i 0
 abbrev pub boolIn : List ℕ → ℕ → Bool
 boolIn b i = eqb (byteIn b i) 1
 
+-- the little-endian number of four bytes at a place
+abbrev pub num32 : List ℕ → ℕ → ℕ
+num32 b at = num16 b at + 2 ^ 16 * num16 b (at + 2)
+
 -- 1 to 32, display memory; 33 to 64, pattern memory
 abbrev pub displayIn : List ℕ → List ℕ
 displayIn b = table (λ i. byteIn b (1 + i)) displaySize
@@ -34,7 +38,7 @@ patternIn b = table (λ i. byteIn b (1 + displaySize + i)) patternSize
 abbrev pub addressIn : ℕ → ℕ → Address
 addressIn memory number = pick (eqb memory 0) (Display (display number)) (Pattern (pattern number))
 
--- 0, the chip's number; 67, shift; 68 to 72, I/D, S, D, C, B; 73, width, 8 or 4; 74, Function Set bits; 101, good
+-- 0, the chip's number; 67, shift; 68 to 72, I/D, S, D, C, B; 73, width, 8 or 4; 74, Function Set bits; 101, good; 102 to 105, the bits of the written places
 abbrev pub registersIn : List ℕ → Registers
 registersIn b = record {
   chip = byteIn b 0;
@@ -48,6 +52,7 @@ registersIn b = record {
   eight = eqb (byteIn b 73) 8;
   function = byteIn b 74;
   good = boolIn b 101;
+  written = num32 b 102;
 }
 
 -- 97, half: 0 none, 1 ignored, 2 waiting; 98, 99, 100, its RS, R/W and nibble

@@ -107,7 +107,7 @@ fn loaded_panel(place: usize, fresh: Panel) -> Started {
         return none;
     }
     if file.len != PANEL_SIZE {
-        complain(b"trace", b"a panel file has 102 bytes");
+        complain(b"trace", b"a panel file has 106 bytes");
         return none;
     }
     let bytes = file.bytes;
@@ -188,7 +188,7 @@ fn arguments() -> Given {
         font FILE    1920 bytes: codes 10h to FFh, eight rows each; without it, a trial font\n\
         chip NAME    6631, one line, or 6635, two lines; without it, 6631\n\
         times R L S  reset, long and short time in microseconds; without it, 10000 1640 40\n\
-        panel FILE   102 bytes: the panel to start from, its chip and times; without it, a fresh one\n\
+        panel FILE   106 bytes: the panel to start from, its chip and times; without it, a fresh one\n\
         frame N      the size of the frames that are painted, 0 to 200; without it, 80, of two lines 160\n\
         frames A B   two files of at most 200 bytes, to compare in place of the two pictures\n\
         records      every record by a call of its own on the panel; without it, out of the stream\n",

@@ -1,8 +1,8 @@
-// A panel file: 102 bytes, as docs/TRACE.md lays them out.
+// A panel file: 106 bytes, as docs/TRACE.md lays them out.
 ghost use Prim.Native.Nat.{_<_};
 ghost use mathlib.Core.Path.{_≡_};
 ghost use Rattle.log.specs.engine.Reading.{Byte, Num16, Num64};
-ghost use Rattle.trace.specs.PanelFile.{addressIn, bitsFit, displayIn, fitsIn, halfHolds, halfIn, filePanel, patternIn, registersIn};
+ghost use Rattle.trace.specs.PanelFile.{addressIn, bitsFit, displayIn, fitsIn, halfHolds, halfIn, filePanel, num32, patternIn, registersIn};
 use chip::address::Address;
 use chip::address::DisplayAddress;
 use chip::address::PatternAddress;
@@ -15,7 +15,7 @@ use mirror::half::Half;
 use mirror::panel::Panel;
 use mirror::panel::Times;
 
-pub const PANEL_SIZE: usize = 102;
+pub const PANEL_SIZE: usize = 106;
 
 // Where the memories begin.
 const DISPLAY: usize = 1;
@@ -31,12 +31,22 @@ fn wide(x: u8) -> u64
 
 // The little-endian number of two bytes at a place.
 fn num16(bytes: [u8; ROOM], at: usize) -> u64
-    requires { ⌜ at < 100 ⌝ }
+    requires { ⌜ at < 105 ⌝ }
     ensures { λ r. ⌜ Num16 bytes at r ⌝ }
 {
     let low = wide(bytes[at]);
     let high = wide(bytes[at + 1]);
     low + 256 * high
+}
+
+// The little-endian number of four bytes at a place.
+fn num32(bytes: [u8; ROOM], at: usize) -> u32
+    requires { ⌜ at < 103 ⌝ }
+    ensures { λ r. ⌜ r ≡ num32 bytes at ⌝ }
+{
+    let low = num16(bytes, at);
+    let high = num16(bytes, at + 2);
+    (low + 65536 * high) as u32
 }
 
 // The little-endian number of eight bytes at a place.
@@ -139,6 +149,7 @@ fn registers_of(bytes: [u8; ROOM]) -> Registers
         eight: bytes[73] == 8,
         function: bytes[74],
         good: bytes[101] == 1,
+        written: num32(bytes, 102),
     }
 }
 

@@ -1,10 +1,12 @@
 // The print of a run: the whole panel, its two pictures, and the comparison.
 ghost use mathlib.Core.Path.{_≡_};
 ghost use lib.ListN.{length};
+ghost use Rattle.trace.specs.Show.{highestFirst};
 use chip::address::Address;
 use chip::registers::Registers;
 use chip::sizes::DISPLAY_SIZE;
 use chip::sizes::ONE_LINE;
+use chip::sizes::PATTERN_SIZE;
 use chip::sizes::places;
 use desk::bytes::Bytes;
 use desk::bytes::ROOM;
@@ -104,6 +106,29 @@ fn show_display(chip: u8, display: [u8; DISPLAY_SIZE]) {
     show_bytes(b" ", &display[..n]);
 }
 
+fn show_pattern(pattern: [u8; PATTERN_SIZE]) {
+    show(b"\npattern");
+    show_bytes(b" ", &pattern);
+}
+
+// The four bytes of a number, the highest first.
+fn highest_first(n: u32) -> [u8; 4]
+    ensures { λ r. ⌜ r ≡ highestFirst n ⌝ }
+{
+    [
+        (n / 16777216) as u8,
+        (n / 65536 % 256) as u8,
+        (n / 256 % 256) as u8,
+        (n % 256) as u8,
+    ]
+}
+
+// The bits of the written places, as they stand.
+fn show_written(bits: u32) {
+    show(b"\nwritten ");
+    show_bytes(b"", &highest_first(bits));
+}
+
 fn show_panel(panel: Panel) {
     let sheet = panel.sheet;
     let display = sheet.display;
@@ -114,14 +139,14 @@ fn show_panel(panel: Panel) {
     bit(panel.sound());
     show_number(b"\nchip ", registers.chip as u64);
     show_display(registers.chip, display);
-    show(b"\npattern");
-    show_bytes(b" ", &pattern);
+    show_pattern(pattern);
     show_registers(registers);
     show_number(b"\nbusy ", panel.busy);
     show_number(b" last ", panel.last);
     show_half(half);
     show(b"\ngood");
     bit(registers.good);
+    show_written(registers.written);
     show(b"\n");
 }
 

@@ -3,7 +3,7 @@ use Prim.Native.Nat.{ℕ, zero, suc, _+_, _*_, _/_, _%_}
 use mathlib.Core.Bool.{Bool, _&&_}
 use mathlib.Core.List.{List, [], _∷_, _++_}
 use Rattle.laws.specs.Pick.{pick}
-use Rattle.dots.specs.Bit.{one}
+use Rattle.laws.specs.Bit.{one}
 use Rattle.dots.specs.Table.{table}
 use Rattle.picture.specs.Frame.{glass, bytesAcross, litAt}
 

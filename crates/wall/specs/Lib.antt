@@ -1,5 +1,6 @@
 pub mod Text
 pub mod Draw
 pub mod Watch
+pub mod Written
 pub mod engine
 pub mod laws

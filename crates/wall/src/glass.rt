@@ -8,6 +8,7 @@ use crate::bitmap::write_bitmap;
 use crate::codes::show_cursor;
 use crate::codes::show_lines;
 use crate::draw::draw;
+use crate::written::show_written;
 use chip::sizes::lines;
 use desk::bytes::Bytes;
 use desk::bytes::held;
@@ -41,6 +42,7 @@ fn show_beneath(panel: Panel) {
     show_lines(sheet, count, true);
     show_lines(sheet, count, false);
     show_cursor(shown(registers), count);
+    show_written(panel);
 }
 
 // Paints into a frame of the panel's chip, and shows it.

@@ -5,6 +5,7 @@ mod draw;
 mod font;
 mod glass;
 mod watch;
+mod written;
 
 use desk::arguments::GROUPS;
 use desk::arguments::Given;
@@ -97,7 +98,8 @@ fn arguments() -> Given {
         b"wall",
         b"ascii, pbm, dark, at TIME, font FILE, chip NAME, times R L S",
         b"wall < LOG draws what the glass showed at the end of the log: 8 rows of 80 dots, of two lines 16, two\n\
-        to a line; then the sixteen codes that each line shows, as text and as numbers, and the cursor's position.\n\
+        to a line; then the sixteen codes that each line shows, as text and as numbers, the cursor's position,\n\
+        and the display addresses that hold no space.\n\
         ascii        a line for each row of dots, of # and .\n\
         pbm          a portable bitmap of the dots, and nothing else\n\
         dark         the blink is dark; without it, light\n\

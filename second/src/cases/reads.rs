@@ -152,6 +152,7 @@ width 8 function 0
 busy 120 last 80
 half none
 good 1
+written 00000001
 ";
 
 const REPORT: &str = "\

@@ -55,7 +55,7 @@ fn shifts_and_settings() -> Vec<Case> {
         }),
         two("03h after moves", forty_apart(&[&moved[..], &[(INSTRUCTION, 0x03)]].concat()), |panel, run, _| {
             let mut home = fresh(Chip::TWO_LINES).sheet;
-            home.display[0x10] = 0x41;
+            home.store(0x10, 0x41);
             // It comes at 160, and is as long as Home.
             numbers(run) == [0; 5] && panel.sheet == home && panel.busy_end == 160 + 1_640
         }),
@@ -187,4 +187,5 @@ width 8 function 0
 busy 160 last 120
 half none
 good 1
+written 80000001
 ";

@@ -8,6 +8,7 @@ fn used() -> Sheet {
     Sheet {
         chip: Chip::ONE_LINE,
         display: std::array::from_fn(|at| if at < 16 { 0xC0 + at as u8 } else { 0x20 }),
+        written: Written::from_bytes([0xFF, 0xFF, 0, 0]),
         pattern: std::array::from_fn(|at| at as u8),
         counter: Display(DisplayAddress(9)),
         shift: 6,
@@ -40,7 +41,8 @@ fn in_pattern(at: u8) -> Sheet {
 #[test]
 fn clear_leaves_s_and_everything_it_does_not_name() {
     let counter = Display(DisplayAddress(0));
-    let cleared = Sheet { display: [0x20; 32], counter, shift: 0, i_d: true, good: false, ..used() };
+    let (display, written) = ([0x20; 32], Written::NOWHERE);
+    let cleared = Sheet { display, written, counter, shift: 0, i_d: true, good: false, ..used() };
     assert_eq!(instructed(0x01), cleared);
     let mut sheet = Sheet { s: false, ..in_pattern(20) };
     sheet.carry_out(Entry::Instruction(0x01));
@@ -149,6 +151,7 @@ fn a_read_moves_and_shifts_nothing() {
 fn a_reset_gives_a_fresh_sheet_and_00h_none() {
     let fresh = after(Entry::Reset);
     assert_eq!((fresh.chip, fresh.display, fresh.pattern), (Chip(31), [0x20; 32], [0; 32]));
+    assert_eq!(fresh.written, Written::NOWHERE);
     assert_eq!((fresh.counter, fresh.shift), (Display(DisplayAddress(0)), 0));
     assert_eq!((fresh.i_d, fresh.s, fresh.d, fresh.c, fresh.b), (true, false, false, false, false));
     assert_eq!((fresh.width, fresh.function, fresh.good), (Width::Eight, 0, false));

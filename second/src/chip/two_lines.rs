@@ -9,6 +9,7 @@ fn used() -> Sheet {
     Sheet {
         chip: Chip::TWO_LINES,
         display: std::array::from_fn(|at| 0xC0 + at as u8),
+        written: Written::from_bytes([0xFF; 4]),
         pattern: std::array::from_fn(|at| at as u8),
         counter: Display(DisplayAddress(0x1D)),
         shift: 9,
@@ -97,7 +98,8 @@ fn the_shift_stays_within_a_line() {
 #[test]
 fn clear_and_home() {
     let home = Sheet { shift: 0, good: false, ..at(0) };
-    assert_eq!(instructed(0x01), Sheet { display: [0x20; 32], i_d: true, ..home.clone() });
+    let cleared = Sheet { display: [0x20; 32], written: Written::NOWHERE, i_d: true, ..home.clone() };
+    assert_eq!(instructed(0x01), cleared);
     assert_eq!(instructed(0x02), home);
     // Double height stays unused: 03h is Home.
     assert_eq!(instructed(0x03), home);
@@ -126,6 +128,7 @@ fn patterns_are_as_on_one_line() {
 fn a_reset_keeps_the_chip() {
     let fresh = after(used(), Entry::Reset);
     assert_eq!((fresh.chip, fresh.display, fresh.pattern), (Chip(35), [0x20; 32], [0; 32]));
+    assert_eq!(fresh.written, Written::NOWHERE);
     assert_eq!((fresh.counter, fresh.shift), (Display(DisplayAddress(0)), 0));
     assert_eq!(fresh, Sheet::fresh(Chip::TWO_LINES));
 }

@@ -1,6 +1,6 @@
 //! The classes of `wall`.
 
-use super::{owned, reads};
+use super::{owned, reads, written};
 use crate::chips::Chip;
 
 /// What `wall` shows: D, C and B, where the cursor is, and what is written.
@@ -41,7 +41,7 @@ const TWO_LINES: [&str; 8] = [
 ];
 
 pub fn of_chip(chip: Chip) -> Vec<String> {
-    let lists: [&[&str]; 4] = [&SCREENS, &TIMES, &BLOCKS, &reads::OF_WALL];
+    let lists: [&[&str]; 5] = [&SCREENS, &TIMES, &BLOCKS, &reads::OF_WALL, &written::OF_WALL];
     let mut all = owned(&lists.concat());
     all.extend((0..16).map(|shift| format!("the cursor at shift {shift}")));
     if chip.lines() == 2 {

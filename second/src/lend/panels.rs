@@ -2,17 +2,20 @@
 //! of the ways that the rules name, and bytes that are no panel.
 
 use super::some_times;
+use super::written::{self, Memory};
 use crate::chip::{Counter, DisplayAddress, PatternAddress, Sheet, Width};
-use crate::chips::{Chip, DISPLAY_SIZE};
+use crate::chips::Chip;
 use crate::classes::UNKNOWN_CHIPS;
 use crate::log::TIME_LIMIT;
 use crate::panel::{Half, Panel, Times, BUSY_END_LIMIT};
 use crate::panel_file;
 use crate::random::Random;
+use crate::written::{Written, SPACE};
 
 /// Panels sound and unsound, and bytes that are no panel.
 pub fn some_bytes(random: &mut Random, turn: u64) -> Vec<u8> {
-    let mut panel = sound_panel(random);
+    let chip = random.pick(&Chip::KNOWN);
+    let mut panel = sound_panel(random, chip);
     match turn % 6 {
         0 | 3 => {
             spoil(random, &mut panel, turn / 3);
@@ -27,7 +30,7 @@ pub fn some_bytes(random: &mut Random, turn: u64) -> Vec<u8> {
     }
 }
 
-fn sound_panel(random: &mut Random) -> Panel {
+pub fn sound_panel(random: &mut Random, chip: Chip) -> Panel {
     let width = random.pick(&[Width::Eight, Width::Four, Width::Four]);
     let size = random.below(40);
     let last = match random.below(6) {
@@ -42,7 +45,6 @@ fn sound_panel(random: &mut Random) -> Panel {
         2 => last,
         _ => last + random.below(65_536),
     };
-    let chip = random.pick(&Chip::KNOWN);
     Panel {
         sheet: sound_sheet(random, chip, width),
         times: some_times(random),
@@ -53,14 +55,12 @@ fn sound_panel(random: &mut Random) -> Panel {
 }
 
 fn sound_sheet(random: &mut Random, chip: Chip, width: Width) -> Sheet {
-    let codes = [0x00, 0x03, 0x07, 0x0F, 0x10, 0x20, 0x41, 0xFF];
-    let mut display = [0x20; DISPLAY_SIZE];
-    for byte in &mut display[..chip.places()] {
-        *byte = if random.flag() { random.byte() } else { random.pick(&codes) };
-    }
+    let memory = random.pick(&[Memory::Full, Memory::Full, Memory::Empty, Memory::Mixed, Memory::Mixed]);
+    let display = written::bytes(random, chip, memory);
     Sheet {
         chip,
         display,
+        written: Written::walk(&display),
         pattern: std::array::from_fn(|_| random.byte() & 31),
         counter: if random.flag() {
             Counter::Display(DisplayAddress(some_place(random, chip.places() as u8 - 1)))
@@ -95,7 +95,7 @@ fn sound_half(random: &mut Random) -> Option<Half> {
 }
 
 /// In how many ways a panel is made unsound.
-const WAYS: u64 = 13;
+const WAYS: u64 = 14;
 
 /// Makes a panel unsound in one of the ways that the rules name.
 fn spoil(random: &mut Random, panel: &mut Panel, way: u64) {
@@ -127,11 +127,19 @@ fn spoil(random: &mut Random, panel: &mut Panel, way: u64) {
         9 => panel.last = random.pick(&[TIME_LIMIT, u64::MAX]),
         10 => panel.busy_end = random.pick(&[BUSY_END_LIMIT, u64::MAX]),
         11 => sheet.chip = Chip(random.pick(&UNKNOWN_CHIPS)),
-        // Of two lines it is the chip that is wrong for what the second holds.
-        _ => {
-            sheet.chip = Chip::ONE_LINE;
-            sheet.display[16 + random.below(16) as usize] = random.pick(&[0x00, 0x21, 0xA0, 0xFF]);
-        }
+        12 => written::disagree(random, sheet),
+        _ => write_past_one_line(random, sheet),
+    }
+}
+
+/// A byte that one line does not have, with its bit or without. Where there were two
+/// lines, it is the chip that is wrong for what the second holds.
+fn write_past_one_line(random: &mut Random, sheet: &mut Sheet) {
+    sheet.chip = Chip::ONE_LINE;
+    let place = 16 + random.below(16) as usize;
+    sheet.store(place, random.pick(&[0x00, 0x21, 0xA0, 0xFF]));
+    if random.flag() {
+        sheet.written.store(place, SPACE);
     }
 }
 
@@ -141,7 +149,8 @@ fn no_panel(random: &mut Random, panel: &Panel, way: u64) -> Vec<u8> {
     let flag_places = [65, 68, 69, 70, 71, 72, 98, 99, 101];
     match way % 18 {
         0 => bytes.truncate(random.pick(&[0, 84])),
-        1 => bytes.truncate(random.pick(&[100, 101])),
+        // Without the bits it would be a panel of before.
+        1 => bytes.truncate(random.pick(&[101, 102, 102, 105])),
         2 => bytes.push(0),
         sort @ 3..=11 => bytes[flag_places[sort as usize - 3]] = random.pick(&[2, 255]),
         12 => bytes[73] = random.pick(&[0, 5, 16, 255]),
@@ -159,7 +168,7 @@ fn plain(chip: Chip) -> Panel {
     let mut panel = Panel::fresh(chip, Times::USUAL);
     (panel.sheet.d, panel.sheet.c, panel.sheet.shift) = (true, true, 3);
     for at in (0..chip.places()).step_by(15) {
-        panel.sheet.display[at] = 0x41 + at as u8;
+        panel.sheet.store(at, 0x41 + at as u8);
     }
     panel
 }
@@ -184,7 +193,7 @@ pub fn where_chips_part() -> Vec<Vec<u8>> {
     let mut panels = Vec::new();
     for place in 16..32 {
         let mut panel = plain(Chip::ONE_LINE);
-        panel.sheet.display[place] = [0x00, 0x21, 0x41, 0xFF][place % 4];
+        panel.sheet.store(place, [0x00, 0x21, 0x41, 0xFF][place % 4]);
         panels.push(panel);
         let mut panel = plain(Chip::ONE_LINE);
         panel.sheet.counter = Counter::Display(DisplayAddress(place as u8));
@@ -244,7 +253,7 @@ mod tests {
     fn bytes_that_are_no_panel() {
         let mut random = Random::new(1, 1);
         for way in 0..200 {
-            let panel = sound_panel(&mut random);
+            let panel = sound_panel(&mut random, Chip::KNOWN[way as usize % 2]);
             assert!(panel_file::read(&no_panel(&mut random, &panel, way)).is_err(), "way {way}");
         }
     }

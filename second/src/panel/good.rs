@@ -11,7 +11,7 @@ const DATA_READ: u8 = 3;
 /// A panel of either chip whose next read is good or not, with A7h at address 0.
 fn panel(chip: Chip, width: Width, good: bool) -> Panel {
     let mut panel = Panel::fresh(chip, Times::USUAL);
-    panel.sheet.display[0] = 0xA7;
+    panel.sheet.store(0, 0xA7);
     (panel.sheet.width, panel.sheet.good) = (width, good);
     panel
 }
@@ -68,7 +68,7 @@ fn it_moves_the_address_by_the_entry_bit_in_both_memories() {
 #[test]
 fn the_next_read_is_good_again() {
     let mut panel = wide(false);
-    panel.sheet.display[1] = 0xB8;
+    panel.sheet.store(1, 0xB8);
     assert_eq!(send(&mut panel, 0, DATA_READ, 0), (DOUBTFUL, 0));
     assert_eq!(send(&mut panel, 40, DATA_READ, 0), (TAKEN, 0xB8));
     assert_eq!(send(&mut panel, 80, DATA_READ, 0), (TAKEN, 0x20));

@@ -132,9 +132,10 @@ fn torn_pairs() {
 #[test]
 fn reads_are_fixed_at_the_first_half() {
     let mut panel = narrow();
-    (panel.sheet.display[0], panel.sheet.good) = (0xA7, true);
+    panel.sheet.store(0, 0xA7);
+    panel.sheet.good = true;
     assert_eq!(send(&mut panel, 40, DATA_READ, 0xFF), (HELD, 0xA0));
-    panel.sheet.display[0] = 0x11;
+    panel.sheet.store(0, 0x11);
     assert_eq!(send(&mut panel, 60, DATA_READ, 0xFF), (TAKEN, 0x70));
     assert_eq!((address(&panel), panel.busy_end), (display(1), 100));
     // Begun while busy, ended while free: bit 7 is the first half's.

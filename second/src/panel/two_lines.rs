@@ -114,7 +114,7 @@ fn bytes_past_the_chips_own() {
         for (chip, is_sound) in [(31, place < 16), (35, true)] {
             for byte in [0x00, 0x21, 0xA0, 0xFF] {
                 let mut panel = fresh(chip);
-                panel.sheet.display[place] = byte;
+                panel.sheet.store(place, byte);
                 assert_eq!(panel.is_sound(), is_sound, "chip {chip}, byte {place}");
             }
         }

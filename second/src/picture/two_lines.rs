@@ -10,7 +10,7 @@ const GLYPH: [u8; 8] = [0x10, 0x18, 0x14, 0x12, 0x11, 0x10, 0x00, 0x01];
 fn showing(address: usize, shift: u8) -> Panel {
     let mut panel = Panel::fresh(Chip::TWO_LINES, Times::USUAL);
     panel.sheet.d = true;
-    panel.sheet.display[address] = 0x57;
+    panel.sheet.store(address, 0x57);
     panel.sheet.shift = shift;
     panel
 }
@@ -63,8 +63,8 @@ fn where_a_dot_of_the_second_line_lies() {
 #[test]
 fn patterns_show_on_both_lines() {
     let mut panel = showing(3, 0);
-    panel.sheet.display[3] = 0x0E;
-    panel.sheet.display[0x1C] = 0x02;
+    panel.sheet.store(3, 0x0E);
+    panel.sheet.store(0x1C, 0x02);
     panel.sheet.pattern[16..24].copy_from_slice(&GLYPH);
     assert_eq!(lit(&panel, &font(), false), [glyph_at(0, 3), glyph_at(8, 12)].concat());
 }

@@ -10,7 +10,7 @@ const RANGE_ENDS: [u8; 18] = [
 
 impl Sender<'_> {
     pub(super) fn phrase(&mut self) {
-        match self.random.below(24) {
+        match self.random.below(27) {
             0 => self.start_up(),
             1 | 2 => self.text_line(),
             3 | 4 => self.text_after_polling(),
@@ -28,6 +28,7 @@ impl Sender<'_> {
             16 => self.codes_while_clearing(),
             17 => self.at_the_ends_of_lines(),
             18..=20 => self.read_that_shows(),
+            21..=23 => self.writes_that_show(),
             _ => self.any_transfers(),
         }
     }

@@ -89,7 +89,7 @@ impl Sender<'_> {
         self.reset();
     }
 
-    fn leave_alone(&mut self) {
+    pub(super) fn leave_alone(&mut self) {
         let byte = self.random.byte();
         match self.random.below(10) {
             0..=2 => self.instruct(0x18 | byte & 7),
@@ -123,7 +123,7 @@ impl Sender<'_> {
     }
 
     /// A time before the busy end, where that is still to come.
-    fn busy_time(&mut self) -> u64 {
+    pub(super) fn busy_time(&mut self) -> u64 {
         let last = self.panel.last;
         let latest = self.panel.busy_end.saturating_sub(1).clamp(last, TIME_LIMIT - 1);
         let any = last + self.random.below(latest - last + 1);

@@ -28,6 +28,7 @@ text |.              b|
 codes 20 20 20 20 20 20 20 20 20 20 20 20 20 20 20 61
 codes 80 20 20 20 20 20 20 20 20 20 20 20 20 20 20 62
 cursor 1 line 1
+written 00 10 11
 ";
     assert_eq!(String::from_utf8(print).as_deref(), Ok(expected));
 }
@@ -40,7 +41,7 @@ fn the_drawing_has_sixteen_rows() {
     let print = print(&asked(Form::Ascii, None), &font, &two_letters());
     let print = String::from_utf8(print).expect("text");
     let lines: Vec<&str> = print.lines().collect();
-    assert_eq!(lines.len(), 18 + 5);
+    assert_eq!(lines.len(), 18 + 6);
     let edge = format!("+{}+", "-".repeat(80));
     assert_eq!((lines[0], lines[17]), (&edge[..], &edge[..]));
     let dark = ".".repeat(80);
@@ -64,7 +65,7 @@ fn the_cursor_is_named_with_its_line() {
         (&[(0, 0x0C), (0, 0x90)], "cursor off"), (&[(0, 0x0B), (0, 0x90)], "cursor off"),
     ] {
         let print = print(&asked(Form::HalfBlocks, None), &[0; 1_920], &sent(transfers));
-        assert_eq!(String::from_utf8_lossy(&print).lines().last(), Some(cursor), "{transfers:02X?}");
+        assert_eq!(String::from_utf8_lossy(&print).lines().nth(4), Some(cursor), "{transfers:02X?}");
     }
 }
 

@@ -1,6 +1,6 @@
 -- A sound sheet stays sound under every step.
 use Prim.Native.Nat.{ℕ, zero, suc, _+_, _*_, _%_, _<_, _≤_}
-use mathlib.Core.Path.{_≡_, refl, ap, _∙_}
+use mathlib.Core.Path.{_≡_, refl, sym, ap, _∙_}
 use mathlib.Core.Bool.{Bool, true, false, not}
 use mathlib.Core.List.{List, [], _∷_}
 use native.Mathlib.Omega.{arith}
@@ -9,9 +9,10 @@ use native.Mathlib.Nat.{mod-lt}
 use lib.ListN.{length, getD, set, drop, replicate, drop-of-length-le}
 use lib.Seq.{drop-cons}
 use lib.Dec.{ltb, leb, eqb}
-use borrow.Author.Tests.{leb-false, not-false, lt-ltb, lt-leb}
+use borrow.Author.Tests.{leb-false, not-false, eqb-true, eq-eqb, lt-ltb, lt-leb}
 use Rattle.laws.specs.Pick.{pick}
 use Rattle.laws.specs.Ring.{moved}
+use Rattle.laws.specs.Bit.{withBit}
 use Rattle.laws.specs.laws.PickLaws.{past}
 use Rattle.laws.specs.laws.RingLaws.{moved-below}
 use Rattle.chip.specs.Sizes.{isKnown, twoLines, positions, placesOf, displaySize, patternSize, rowEnd, functionEnd, space}
@@ -19,8 +20,10 @@ use Rattle.chip.specs.Address.{display, pattern, movedAddress, inDisplay
 use Rattle.chip.specs.Sheet.{freshSheet}
 use Rattle.chip.specs.Instruction.{isSet, unset, decoded}
 use Rattle.chip.specs.Step.{homed, cleared, entered, screenSet, stepped, shifted, functionSet, addressSet, nextGood, acted, obeyed, storedAt, followed, shiftsAt, written, passed}
-use Rattle.chip.specs.Sound.{addressFits, faultless, unblank, sixBits, blankPast, patternFits, soundSheet}
+use Rattle.chip.specs.Written.{unblank, isWritten, writtenIn}
+use Rattle.chip.specs.Sound.{addressFits, faultless, sixBits, blankPast, patternFits, soundSheet}
 use Rattle.chip.specs.laws.SizesLaws.{places}
+use Rattle.chip.specs.laws.WrittenLaws.{walk-stored, walk-blank}
 use Rattle.chip.specs.declared.address.Address.{Address}
 use Rattle.chip.specs.declared.address.Address.the-variants.{Display, Pattern}
 use Rattle.chip.specs.declared.instruction.Instruction.{Instruction}
@@ -44,6 +47,7 @@ pub record Sound (s : Sheet) : Type 0 where
   pub shift : s .registers .shift < positions
   pub function : s .registers .function < functionEnd
   pub blank : blankPast (s .registers .chip) (s .display) ≡ true
+  pub written : s .registers .written ≡ writtenIn displaySize (s .display)
   pub entries : patternFits (s .pattern) ≡ true
 
 pub parts : (s : Sheet) → soundSheet s ≡ true → Sound s
@@ -54,24 +58,29 @@ parts s e =
     let b = past (leb positions (r .shift)) (a .later) in
     let c = past (leb functionEnd (r .function)) (b .later) in
     let d = past (not (blankPast (r .chip) (s .display))) (c .later) in
+    let agree = eqb (r .written) (writtenIn displaySize (s .display)) in
+    let w = past (not agree) (d .later) in
     record {
       known = not-false (isKnown (r .chip)) (n .here);
       address = not-false (addressFits (r .chip) (r .address)) (a .here);
       shift = leb-false positions (r .shift) (b .here);
       function = leb-false functionEnd (r .function) (c .here);
       blank = not-false (blankPast (r .chip) (s .display)) (d .here);
-      entries = d .later;
+      written = eqb-true (r .written) (writtenIn displaySize (s .display)) (not-false agree (w .here));
+      entries = w .later;
     }
 
 pub whole : (s : Sheet) → Sound s → soundSheet s ≡ true
 whole s h =
     by (isKnown (s .registers .chip)) (addressFits (s .registers .chip) (s .registers .address)) (leb positions (s .registers .shift))
-    (leb functionEnd (s .registers .function)) (blankPast (s .registers .chip) (s .display)) (patternFits (s .pattern)) (h .known) (h .address)
-    (lt-leb positions (s .registers .shift) (h .shift)) (lt-leb functionEnd (s .registers .function) (h .function)) (h .blank) (h .entries)
+    (leb functionEnd (s .registers .function)) (blankPast (s .registers .chip) (s .display))
+    (eqb (s .registers .written) (writtenIn displaySize (s .display))) (patternFits (s .pattern)) (h .known) (h .address)
+    (lt-leb positions (s .registers .shift) (h .shift)) (lt-leb functionEnd (s .registers .function) (h .function)) (h .blank)
+    (eq-eqb (s .registers .written) (writtenIn displaySize (s .display)) (h .written)) (h .entries)
   where
-    by : (k a b c d e : Bool) → k ≡ true → a ≡ true → b ≡ false → c ≡ false → d ≡ true → e ≡ true →
-        pick (not k) false (pick (not a) false (pick b false (pick c false (pick (not d) false e)))) ≡ true
-    by k a b c d e hk ha hb hc hd he = rw (hk, ha, hb, hc, hd, he)
+    by : (k a b c d w e : Bool) → k ≡ true → a ≡ true → b ≡ false → c ≡ false → d ≡ true → w ≡ true → e ≡ true →
+        pick (not k) false (pick (not a) false (pick b false (pick c false (pick (not d) false (pick (not w) false e))))) ≡ true
+    by k a b c d w e hk ha hb hc hd hw he = rw (hk, ha, hb, hc, hd, hw, he)
 
 -- an address that moves stays in its memory, whatever its size
 round-fits : (n : ℕ) (up : Bool) (a : ℕ) → 0 < n → ltb (moved n up a) n ≡ true
@@ -113,36 +122,36 @@ first-fits chip = lt-ltb 0 (placesOf chip) (places chip .some)
 pub fresh-sound : (chip : ℕ) → isKnown chip ≡ true → Sound (freshSheet chip)
 unfolding faultless
 fresh-sound chip k =
-    record { known = k; address = first-fits chip; shift = omega arith; function = omega arith; blank = cleared-blank chip; entries = refl }
+    record { known = k; address = first-fits chip; shift = omega arith; function = omega arith; blank = cleared-blank chip; written = sym (walk-blank displaySize); entries = refl }
 
 pub homed-sound : (s : Sheet) → Sound s → Sound (homed s)
-homed-sound s h = record { known = h .known; address = first-fits (s .registers .chip); shift = omega arith; function = h .function; blank = h .blank; entries = h .entries }
+homed-sound s h = record { known = h .known; address = first-fits (s .registers .chip); shift = omega arith; function = h .function; blank = h .blank; written = h .written; entries = h .entries }
 
 pub cleared-sound : (s : Sheet) → Sound s → Sound (cleared s)
-cleared-sound s h = record { known = h .known; address = first-fits (s .registers .chip); shift = omega arith; function = h .function; blank = cleared-blank (s .registers .chip); entries = h .entries }
+cleared-sound s h = record { known = h .known; address = first-fits (s .registers .chip); shift = omega arith; function = h .function; blank = cleared-blank (s .registers .chip); written = sym (walk-blank displaySize); entries = h .entries }
 
 pub entered-sound : (up follow : Bool) (s : Sheet) → Sound s → Sound (entered up follow s)
-entered-sound up follow s h = record { known = h .known; address = h .address; shift = h .shift; function = h .function; blank = h .blank; entries = h .entries }
+entered-sound up follow s h = record { known = h .known; address = h .address; shift = h .shift; function = h .function; blank = h .blank; written = h .written; entries = h .entries }
 
 pub lit-sound : (on cursor blink : Bool) (s : Sheet) → Sound s → Sound (screenSet on cursor blink s)
-lit-sound on cursor blink s h = record { known = h .known; address = h .address; shift = h .shift; function = h .function; blank = h .blank; entries = h .entries }
+lit-sound on cursor blink s h = record { known = h .known; address = h .address; shift = h .shift; function = h .function; blank = h .blank; written = h .written; entries = h .entries }
 
 pub stepped-sound : (up : Bool) (s : Sheet) → Sound s → Sound (stepped up s)
-stepped-sound up s h = record { known = h .known; address = moved-fits (s .registers .chip) up (s .registers .address); shift = h .shift; function = h .function; blank = h .blank; entries = h .entries }
+stepped-sound up s h = record { known = h .known; address = moved-fits (s .registers .chip) up (s .registers .address); shift = h .shift; function = h .function; blank = h .blank; written = h .written; entries = h .entries }
 
 pub shifted-sound : (left : Bool) (s : Sheet) → Sound s → Sound (shifted left s)
 shifted-sound left s h =
-    record { known = h .known; address = h .address; shift = moved-below positions left (s .registers .shift) (omega arith); function = h .function; blank = h .blank; entries = h .entries }
+    record { known = h .known; address = h .address; shift = moved-below positions left (s .registers .shift) (omega arith); function = h .function; blank = h .blank; written = h .written; entries = h .entries }
 
 pub functionSet-sound : (eight : Bool) (bits : ℕ) (s : Sheet) → bits < functionEnd → Sound s → Sound (functionSet eight bits s)
-functionSet-sound eight bits s b h = record { known = h .known; address = h .address; shift = h .shift; function = b; blank = h .blank; entries = h .entries }
+functionSet-sound eight bits s b h = record { known = h .known; address = h .address; shift = h .shift; function = b; blank = h .blank; written = h .written; entries = h .entries }
 
 pub addressSet-sound : (a : Address) (s : Sheet) → addressFits (s .registers .chip) a ≡ true → Sound s → Sound (addressSet a s)
-addressSet-sound a s f h = record { known = h .known; address = f; shift = h .shift; function = h .function; blank = h .blank; entries = h .entries }
+addressSet-sound a s f h = record { known = h .known; address = f; shift = h .shift; function = h .function; blank = h .blank; written = h .written; entries = h .entries }
 
 -- whether the next read is good has no say in it
 good-sound : (good : Bool) (s : Sheet) → Sound s → Sound (nextGood good s)
-good-sound good s h = record { known = h .known; address = h .address; shift = h .shift; function = h .function; blank = h .blank; entries = h .entries }
+good-sound good s h = record { known = h .known; address = h .address; shift = h .shift; function = h .function; blank = h .blank; written = h .written; entries = h .entries }
 
 -- what a code sets lies in range, on its chip
 data Fits (chip : ℕ) : Instruction → Type 0 where
@@ -186,6 +195,7 @@ stored-sound (Display d) byte s h =
       shift = h .shift;
       function = h .function;
       blank = ap (faultless unblank) kept ∙ h .blank;
+      written = ap (withBit displaySize (d .0 % n) (isWritten (set (s .display) (d .0 % n) byte) (d .0 % n))) (h .written) ∙ walk-stored displaySize (s .display) (d .0 % n) byte;
       entries = h .entries;
     }
 stored-sound (Pattern p) byte s h =
@@ -195,6 +205,7 @@ stored-sound (Pattern p) byte s h =
       shift = h .shift;
       function = h .function;
       blank = h .blank;
+      written = h .written;
       entries = set-faultless sixBits (s .pattern) (p .0 % patternSize) (byte % rowEnd) (lt-leb rowEnd (byte % rowEnd) (mod-lt byte (omega arith))) (h .entries);
     }
 

@@ -44,51 +44,54 @@ SameDisplay s t = t .display ≡ s .display
 abbrev pub SamePattern : Sheet → Sheet → Type 0
 SamePattern s t = t .pattern ≡ s .pattern
 
+abbrev pub SameWritten : Sheet → Sheet → Type 0
+SameWritten s t = t .registers .written ≡ s .registers .written
+
 -- Clear leaves S, the screen, width and Function Set bits, and pattern memory
 pub clear-keeps : (s : Sheet) → let t = cleared s in (t .registers .follow ≡ s .registers .follow) × SameScreen s t × SameFunction s t × SamePattern s t
 clear-keeps s = (refl, (refl, refl, refl), (refl, refl), refl)
 
 -- Home leaves all but address and shift
-pub home-keeps : (s : Sheet) → let t = homed s in SameEntry s t × SameScreen s t × SameFunction s t × SameDisplay s t × SamePattern s t
-home-keeps s = ((refl, refl), (refl, refl, refl), (refl, refl), refl, refl)
+pub home-keeps : (s : Sheet) → let t = homed s in SameEntry s t × SameScreen s t × SameFunction s t × SameDisplay s t × SamePattern s t × SameWritten s t
+home-keeps s = ((refl, refl), (refl, refl, refl), (refl, refl), refl, refl, refl)
 
 -- entry mode leaves all but I/D and S
 pub entry-keeps : (up follow : Bool) (s : Sheet) → let t = entered up follow s in
-    SameAddress s t × SameShift s t × SameScreen s t × SameFunction s t × SameDisplay s t × SamePattern s t
-entry-keeps up follow s = (refl, refl, (refl, refl, refl), (refl, refl), refl, refl)
+    SameAddress s t × SameShift s t × SameScreen s t × SameFunction s t × SameDisplay s t × SamePattern s t × SameWritten s t
+entry-keeps up follow s = (refl, refl, (refl, refl, refl), (refl, refl), refl, refl, refl)
 
 -- the display bits: all but D, C and B
 pub screen-keeps : (on cursor blink : Bool) (s : Sheet) → let t = screenSet on cursor blink s in
-    SameAddress s t × SameShift s t × SameEntry s t × SameFunction s t × SameDisplay s t × SamePattern s t
-screen-keeps on cursor blink s = (refl, refl, (refl, refl), (refl, refl), refl, refl)
+    SameAddress s t × SameShift s t × SameEntry s t × SameFunction s t × SameDisplay s t × SamePattern s t × SameWritten s t
+screen-keeps on cursor blink s = (refl, refl, (refl, refl), (refl, refl), refl, refl, refl)
 
 -- a cursor move, and so a data read: all but the address, the shift among it (slip 3)
 pub step-keeps : (up : Bool) (s : Sheet) → let t = stepped up s in
-    SameShift s t × SameEntry s t × SameScreen s t × SameFunction s t × SameDisplay s t × SamePattern s t
-step-keeps up s = (refl, (refl, refl), (refl, refl, refl), (refl, refl), refl, refl)
+    SameShift s t × SameEntry s t × SameScreen s t × SameFunction s t × SameDisplay s t × SamePattern s t × SameWritten s t
+step-keeps up s = (refl, (refl, refl), (refl, refl, refl), (refl, refl), refl, refl, refl)
 
 pub read-steps : (s : Sheet) → passed s ≡ nextGood true (stepped (s .registers .up) s)
 read-steps s = refl
 
 -- a display shift: all but the shift
 pub shift-keeps : (left : Bool) (s : Sheet) → let t = shifted left s in
-    SameAddress s t × SameEntry s t × SameScreen s t × SameFunction s t × SameDisplay s t × SamePattern s t
-shift-keeps left s = (refl, (refl, refl), (refl, refl, refl), (refl, refl), refl, refl)
+    SameAddress s t × SameEntry s t × SameScreen s t × SameFunction s t × SameDisplay s t × SamePattern s t × SameWritten s t
+shift-keeps left s = (refl, (refl, refl), (refl, refl, refl), (refl, refl), refl, refl, refl)
 
 -- Function Set: all but the width and its bits
 pub function-keeps : (eight : Bool) (bits : ℕ) (s : Sheet) → let t = functionSet eight bits s in
-    SameAddress s t × SameShift s t × SameEntry s t × SameScreen s t × SameDisplay s t × SamePattern s t
-function-keeps eight bits s = (refl, refl, (refl, refl), (refl, refl, refl), refl, refl)
+    SameAddress s t × SameShift s t × SameEntry s t × SameScreen s t × SameDisplay s t × SamePattern s t × SameWritten s t
+function-keeps eight bits s = (refl, refl, (refl, refl), (refl, refl, refl), refl, refl, refl)
 
 -- an address set: all but the address
 pub set-keeps : (a : Address) (s : Sheet) → let t = addressSet a s in
-    SameShift s t × SameEntry s t × SameScreen s t × SameFunction s t × SameDisplay s t × SamePattern s t
-set-keeps a s = (refl, (refl, refl), (refl, refl, refl), (refl, refl), refl, refl)
+    SameShift s t × SameEntry s t × SameScreen s t × SameFunction s t × SameDisplay s t × SamePattern s t × SameWritten s t
+set-keeps a s = (refl, (refl, refl), (refl, refl, refl), (refl, refl), refl, refl, refl)
 
 -- a pattern write: all but the address and pattern memory, the shift among it (slip 3)
 pub pattern-write-keeps : (p : PatternAddress) (byte : ℕ) (s : Sheet) → let t = writtenAt (Pattern p) byte s in
-    SameShift s t × SameEntry s t × SameScreen s t × SameFunction s t × SameDisplay s t
-pattern-write-keeps p byte s = (refl, (refl, refl), (refl, refl, refl), (refl, refl), refl)
+    SameShift s t × SameEntry s t × SameScreen s t × SameFunction s t × SameDisplay s t × SameWritten s t
+pattern-write-keeps p byte s = (refl, (refl, refl), (refl, refl, refl), (refl, refl), refl, refl)
 
 -- a display write: all but the address, the shift and display memory
 pub display-write-keeps : (d : DisplayAddress) (byte : ℕ) (s : Sheet) → let t = writtenAt (Display d) byte s in

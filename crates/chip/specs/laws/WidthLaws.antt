@@ -9,7 +9,8 @@ use Rattle.chip.specs.Sizes.{placesOf, patternSize, functionEnd}
 use Rattle.chip.specs.Address.{display, pattern}
 use Rattle.chip.specs.Instruction.{isSet, unset, decoded}
 use Rattle.chip.specs.Step.{acted, obeyed, writtenAt, written}
-use Rattle.chip.specs.laws.CodeLaws.{high-code}
+use Rattle.chip.specs.laws.CodeLaws.{Keeps, either, kept, high-code}
+use Rattle.chip.specs.laws.CodeLaws.Keeps.{keeps}
 use Rattle.chip.specs.laws.StepLaws.{pattern-write-keeps, display-write-keeps}
 use Rattle.chip.specs.declared.address.Address.{Address}
 use Rattle.chip.specs.declared.address.Address.the-variants.{Display, Pattern}
@@ -18,14 +19,10 @@ use Rattle.chip.specs.declared.instruction.Instruction.the-variants.{Not
 use Rattle.chip.specs.declared.sheet.Sheet.{Sheet}
 
 -- an instruction that leaves the width
-data Keeps : Instruction → Type 0 where
-  keeps : (i : Instruction) → ((s : Sheet) → acted i s .registers .eight ≡ s .registers .eight) → Keeps i
+abbrev KeepsWidth : Instruction → Type 0
+KeepsWidth = Keeps (λ r. r .eight)
 
-either : (b : Bool) {x y : Instruction} → Keeps x → Keeps y → Keeps (pick b x y)
-either true k l = k
-either false k l = l
-
-low-keeps : (chip code : ℕ) → ltb code 0x20 ≡ true → Keeps (decoded chip code)
+low-keeps : (chip code : ℕ) → ltb code 0x20 ≡ true → KeepsWidth (decoded chip code)
 low-keeps chip code e =
     rw e
     (either (ltb code 0x01) (keeps Nothing (λ s. refl))
@@ -42,16 +39,13 @@ obeyed-width code s = by (ltb code 0x20) refl where
   eight : Bool
   eight = s .registers .eight
 
-  kept : {i : Instruction} → Keeps i → acted i s .registers .eight ≡ eight
-  kept (keeps i k) = k s
-
   high : (a b : Bool) → acted (pick a (Function (isSet 0x10 code) (code % functionEnd)) (pick b (Set (Pattern (pattern (code % patternSize)))) (Set (Display (display (code % placesOf (s .registers .chip))))))) s .registers .eight ≡ pick a (isSet 0x10 code) eight
   high true b = refl
   high false true = refl
   high false false = refl
 
   by : (b : Bool) → ltb code 0x20 ≡ b → obeyed code s .registers .eight ≡ pick b eight (pick (ltb code 0x40) (isSet 0x10 code) eight)
-  by true e = kept (low-keeps (s .registers .chip) code e)
+  by true e = kept (low-keeps (s .registers .chip) code e) s
   by false e = ap (λ i. acted i s .registers .eight) (high-code (s .registers .chip) code (ltb-false code 0x20 e)) ∙ high (ltb code 0x40) (ltb code 0x80)
 
 pub written-width : (byte : ℕ) (s : Sheet) → written byte s .registers .eight ≡ s .registers .eight

@@ -23,6 +23,7 @@ use Rattle.striking.specs.Machine.{Answered}
 use Rattle.demands.specs.Mirrors.{Response, ours}
 use Rattle.demands.specs.Answers.{answersBy}
 use Rattle.demands.specs.cases.Logs.{answering, instructAt, writeAt, statusAt, readAt, resetAt, casePanelOf, casePanel}
+use Rattle.demands.specs.cases.RowCases.{placesIn}
 
 -- what is to be seen of a log: each answer's number with its bus byte, and of the panel at the end its chip, busy end, last time, address, shift,
 -- memories, half and whether the next read is good, and the eight rows that position 0 of each line shows with a blank font
@@ -37,6 +38,7 @@ pub record Seen : Type 0 where
   pub patterns : List ℕ
   pub half : Half
   pub good : Bool
+  pub written : ℕ
   pub shapes : List (List ℕ)
 
 abbrev told : List (Answered (List ℕ) Response) → List (ℕ × ℕ)
@@ -57,6 +59,7 @@ seenOf chip log =
       patterns = p .sheet .pattern;
       half = p .half;
       good = p .sheet .registers .good;
+      written = p .sheet .registers .written;
       shapes = rows.table (λ line. shapeAt (p .sheet) (replicate fontSize 0) line 0) (linesOf chip);
     }
 
@@ -94,6 +97,7 @@ shows chip good log answers busy last address shift codes patterns shapes =
             patterns = patterns;
             half = Empty;
             good = good;
+            written = placesIn codes;
             shapes = shapes;
           };
     }

@@ -5,7 +5,7 @@ use mathlib.Core.Path.{refl}
 use mathlib.Core.Bool.{Bool, true, false}
 use mathlib.Core.List.{List, [], _∷_, _++_}
 use lib.ListN.{replicate}
-use Rattle.dots.specs.Bit.{pack}
+use Rattle.laws.specs.Bit.{pack}
 use Rattle.dots.specs.First.{first, firstDot}
 use Rattle.dots.specs.Landing.{dotsFrame, countOf}
 use Rattle.dots.specs.Table.{table, sum}

@@ -6,6 +6,7 @@ use mathlib.Core.Bool.{Bool, true, false, _&&_, false≢true}
 use mathlib.Core.List.{List, [], _∷_, _++_}
 use lib.Dec.{ltb}
 use borrow.Author.Tests.{ltb-true}
+use Rattle.laws.specs.Bit.{pack}
 use Rattle.log.specs.Frame.{num16, num64, cutAt, badAt, frameOf}
 use Rattle.log.specs.Frames.{piecesFrom}
 use Rattle.chip.specs.Sound.{faultless}
@@ -19,7 +20,7 @@ use Rattle.mirror.specs.declared.panel.Panel.{Panel}
 
 -- what computes when a log is answered
 unfoldable pub answering : ℕ
-unfolding num16 num64 cutAt badAt frameOf piecesFrom faultless rowFor recordOf tallied onward runOf
+unfolding num16 num64 cutAt badAt frameOf piecesFrom faultless rowFor recordOf tallied onward runOf pack
 answering = 0
 
 -- a time below 65,536

@@ -1,6 +1,6 @@
 -- What the tables of computed rows say, and the panels that they start from: panels that are nowhere fresh. Every row is worked out from document 01 and
 -- none from a definition, so that a definition that misreads the paper makes a row fail.
-use Prim.Native.Nat.{ℕ, zero, suc}
+use Prim.Native.Nat.{ℕ, zero, suc, _+_, _*_}
 use lib.Dec.{eqb}
 use mathlib.Core.Path.{_≡_}
 use mathlib.Core.Bool.{Bool, true, false}
@@ -72,11 +72,12 @@ regs address shift up follow on cursor blink width function =
       eight = eqb width 8;
       function = function;
       good = true;
+      written = 0;
     }
 
--- registers with the chip, and with whether the next read is good, set anew
-abbrev regsWith : ℕ → Bool → Registers → Registers
-regsWith chip good r =
+-- registers with the chip, whether the next read is good, and which places are written, set anew
+abbrev regsWith : ℕ → Bool → ℕ → Registers → Registers
+regsWith chip good written r =
     record {
       chip = chip;
       address = r .address;
@@ -89,14 +90,19 @@ regsWith chip good r =
       eight = r .eight;
       function = r .function;
       good = good;
+      written = written;
     }
 
 -- the same of another chip; and where the next read is not good
 abbrev pub regsOf : ℕ → Registers → Registers
-regsOf chip r = regsWith chip (r .good) r
+regsOf chip r = regsWith chip (r .good) (r .written) r
 
 abbrev pub doubted : Registers → Registers
-doubted r = regsWith (r .chip) false r
+doubted r = regsWith (r .chip) false (r .written) r
+
+-- and with these places written
+abbrev pub marked : ℕ → Registers → Registers
+marked written r = regsWith (r .chip) (r .good) written r
 
 -- two settings in which every bit differs, at a width
 abbrev pub down : ℕ → Registers
@@ -129,11 +135,16 @@ with at byte [] = []
 with zero byte (old ∷ rest) = byte ∷ rest
 with (suc at) byte (old ∷ rest) = old ∷ with at byte rest
 
--- a panel whose three times are 30,011 / 2,003 / 71: registers, both memories, busy end, half, last time
+-- which places of a memory are written: 1 for the first if it isn't 20h, 2 for the second, 4 for the third, and so on (document 02, wish 3)
+abbrev pub placesIn : List ℕ → ℕ
+placesIn [] = 0
+placesIn (byte ∷ rest) = pick (eqb byte 0x20) 0 1 + 2 * placesIn rest
+
+-- a panel whose three times are 30,011 / 2,003 / 71: registers, both memories, busy end, half, last time. The places written are those of its memory
 abbrev pub panelWith : Registers → List ℕ → List ℕ → ℕ → Half → ℕ → Panel
 panelWith registers display pattern busy half last =
     record {
-      sheet = record { registers = registers; display = display; pattern = pattern };
+      sheet = record { registers = marked (placesIn display) registers; display = display; pattern = pattern };
       busy = busy;
       half = half;
       times = record { reset = 30_011; long = 2_003; short = 71 };

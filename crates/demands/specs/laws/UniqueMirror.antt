@@ -15,6 +15,8 @@ use Rattle.mirror.proofs.half.Half.fits as half·fits
 use Rattle.mirror.proofs.panel.Panel.fresh as panel·fresh
 use Rattle.mirror.proofs.panel.Panel.sound as panel·sound
 use Rattle.mirror.proofs.panel.Panel.«record» as panel·record
+use Rattle.mirror.proofs.panel.Panel.written as panel·written
+use Rattle.mirror.proofs.written.PlacesWritten.refusal as placesWritten·refusal
 use Rattle.mirror.proofs.stream.Stream.start as stream·start
 use Rattle.mirror.proofs.stream.Stream.next as stream·next
 use Rattle.mirror.proofs.stream.Stream.feed as stream·feed
@@ -57,6 +59,14 @@ module _ {M : Type 1} (𝓤 : URA M) (H : Heap 𝓤) (A : Atoms 𝓤) (mem : Mem
   -- mirror::panel::Panel::record: Records self (now (log .entry)) r
   pub panel-record : DeterminesAnswer 𝓤 panel·record.ended (panel·record.clauses 𝓤 H A mem run)
   panel-record = answer 𝓤 _ _ _ (λ κs a g r e. refl) (λ κs a r s e f p q. p .is ∙ sym (q .is))
+
+  -- mirror::panel::Panel::written: Tells self r
+  pub panel-written : DeterminesAnswer 𝓤 panel·written.ended (panel·written.clauses 𝓤 H A mem run)
+  panel-written = answer 𝓤 _ _ _ (λ κs a g r e. refl) (λ κs a r s e f p q. p .told ∙ sym (q .told))
+
+  -- mirror::written::PlacesWritten::refusal: r ≡ writtenRefusal self
+  pub placesWritten-refusal : DeterminesAnswer 𝓤 placesWritten·refusal.ended (placesWritten·refusal.clauses 𝓤 H A mem run)
+  placesWritten-refusal = equation 𝓤 _ _ _ (λ κs a g r e. refl)
 
   -- mirror::stream::Stream::start: r ≡ startOf panel
   pub stream-start : DeterminesAnswer 𝓤 stream·start.ended (stream·start.clauses 𝓤 H A mem run)

@@ -1,7 +1,7 @@
--- A panel of an unknown chip is not sound, and so refused by every call.
+-- A panel of an unknown chip, and one whose bits disagree with its memory, are not sound, and so refused by every call.
 use Prim.Native.Nat.{ℕ}
 use mathlib.Core.Path.{_≡_, refl, sym, ap, _∙_}
-use mathlib.Core.Bool.{Bool, false, not}
+use mathlib.Core.Bool.{Bool, true, false, not}
 use mathlib.Core.List.{List}
 use Rattle.laws.specs.Pick.{pick}
 use Rattle.chip.specs.Sizes.{isKnown}
@@ -12,12 +12,13 @@ use Rattle.mirror.specs.Promise.{summed}
 use Rattle.mirror.specs.laws.TableLaws.{refused-unsound}
 use Rattle.mirror.specs.laws.StreamLaws.{feed-run}
 use Rattle.mirror.specs.laws.NextLaws.{next-refused}
+use Rattle.mirror.specs.laws.WrittenLaws.{written-places}
 use Rattle.mirror.specs.declared.panel.Panel.{Panel}
 use Rattle.mirror.specs.declared.record.Recorded.{Recorded}
 use Rattle.mirror.specs.declared.stream.Run.{Run}
 use Rattle.mirror.specs.declared.stream.Stream.{Stream}
 use Rattle.picture.specs.Paint.{paintPaper}
-use Rattle.demands.specs.Unknown.{RefusedAlways, UnknownRefused}
+use Rattle.demands.specs.Unknown.{RefusedCalls, UnknownRefused, DisagreeingRefused}
 
 -- a panel that is not sound is refused by every call but the comparison, which is told a chip alone
 module _ (p : Panel) (e : soundPanel p ≡ false) where
@@ -31,9 +32,8 @@ module _ (p : Panel) (e : soundPanel p ≡ false) where
 unknown-unsound : (p : Panel) → isKnown (p .sheet .registers .chip) ≡ false → soundPanel p ≡ false
 unknown-unsound p k = rw k
 
-pub unknown-refused : UnknownRefused
-unknown-refused p k =
-    let e = unknown-unsound p k in
+unsound-refused : (p : Panel) → soundPanel p ≡ false → RefusedCalls p
+unsound-refused p e =
     record {
       answered = λ log. ap (λ (r : Recorded). paper (r .answer) (r .byte)) (refused-unsound p log e);
       unused = λ log. ap (λ (r : Recorded). r .used) (refused-unsound p log e);
@@ -44,5 +44,15 @@ unknown-refused p k =
       nexts = λ part. sym (next-refused (startAs (soundPanel p) p) part (ap (λ (st : Stream). st .refused) (refused-start p e)));
       paints = λ font dark frame. rw e;
       frames = λ font dark frame. rw e;
-      compares = λ a b. rw k;
+      places = rw e;
     }
+
+pub unknown-refused : UnknownRefused
+unknown-refused p k = record { calls = unsound-refused p (unknown-unsound p k); compares = λ a b. rw k }
+
+pub disagreeing-refused : DisagreeingRefused
+disagreeing-refused p a l d = by (soundPanel p) refl
+  where
+    by : (b : Bool) → soundPanel p ≡ b → RefusedCalls p
+    by true e = absurd (d (written-places .bits p e .exactly a l))
+    by false e = unsound-refused p e

@@ -7,11 +7,11 @@ use native.Mathlib.Nat.{div-add-mod', not-suc-le-zero}
 use native.Mathlib.Decide.{ℕ-discrete, decLt}
 use native.Mathlib.Omega.{arith}
 use lib.ListN.{length, getD, replicate, length-replicate, getD-replicate, List·getD-eq-default}
-use Rattle.dots.specs.laws.PartsLaws.{place-in, part-of, place-of}
-use Rattle.dots.specs.Bit.{bit, one}
-use Rattle.dots.specs.laws.BitLaws.{one-lt, bit-of-zero}
+use Rattle.laws.specs.Bit.{bit, one}
+use Rattle.laws.specs.laws.BitLaws.{one-lt, bit-of-zero}
 use Rattle.dots.specs.Table.{sum}
 use Rattle.dots.specs.engine.Cells.{inOrder, put, strip, block, line, page, pageSum}
+use Rattle.dots.specs.laws.PartsLaws.{place-in, part-of, place-of}
 use Rattle.dots.specs.laws.TableLaws.{in-order-keeps, sum-cong, sum-blocks, sum-swap}
 use Rattle.dots.specs.Landing.{Landing, dot, dotsFrame, countOf}
 use Rattle.dots.specs.laws.LandingLaws.{Bytes, is-frame, length-put, put-same, put-other, put-spare, put-bytes}

@@ -10,8 +10,8 @@ use lib.Pow.{shl-lt, pow-mono}
 use lib.Bits.{bitOr, or-lt}
 use lib.ListN.{length, getD, length-set}
 use lib.Seq.{getD-set-same, getD-set-other, ext-getD}
-use Rattle.dots.specs.Bit.{bit, one, pack}
-use Rattle.dots.specs.laws.BitLaws.{one-lt, bit-pack, is-pack, same-bits, or-same, or-other}
+use Rattle.laws.specs.Bit.{bit, one, pack}
+use Rattle.laws.specs.laws.BitLaws.{one-lt, bit-pack, is-pack, same-bits, or-same, or-other}
 use Rattle.dots.specs.laws.TableLaws.{length-table, getD-table}
 use Rattle.dots.specs.Landing.{Landing, dot, dotsFrame}
 use Rattle.dots.specs.engine.Cells.{put}

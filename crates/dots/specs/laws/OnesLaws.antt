@@ -5,8 +5,8 @@ use native.Mathlib.Numerals.{add-one}
 use native.Mathlib.Omega.{arith}
 use lib.Pow.{mod-pow-add}
 use lib.Count.{ones, onesIn, ones-step}
-use Rattle.dots.specs.Bit.{bit}
-use Rattle.dots.specs.laws.BitLaws.{bit-zero, bit-half}
+use Rattle.laws.specs.Bit.{bit}
+use Rattle.laws.specs.laws.BitLaws.{bit-zero, bit-half}
 use Rattle.dots.specs.Table.{sum}
 use Rattle.dots.specs.laws.TableLaws.{sum-cong}
 

@@ -3,6 +3,7 @@ use Prim.Native.Nat.{ℕ}
 use mathlib.Core.Path.{_≡_, refl}
 use mathlib.Core.Bool.{Bool, true}
 use mathlib.Core.List.{List, [], _∷_}
+use Rattle.laws.specs.Bit.{pack}
 use Rattle.log.specs.Frame.{num16, num64, cutAt, badAt, frameOf, timeOf}
 use Rattle.chip.specs.Sizes.{oneLine}
 use Rattle.chip.specs.Sound.{faultless}
@@ -34,9 +35,9 @@ entries = notedFrom (freshPanel oneLine 10000 1640 40) log
 
 -- both halves of the pair begun at 39 are ignored, though the chip is free by 41, and the next pair is not skewed
 answers : numbers entries ≡ 0 ∷ 3 ∷ 5 ∷ 3 ∷ 1 ∷ 0 ∷ []
-unfolding num16 num64 cutAt badAt frameOf faultless transferred recordOf
+unfolding num16 num64 cutAt badAt frameOf faultless transferred recordOf pack
 answers = refl
 
 starts : begun true none entries ≡ 0 ∷ 39 ∷ 39 ∷ 39 ∷ 42 ∷ 42 ∷ []
-unfolding num16 num64 cutAt badAt frameOf faultless transferred recordOf
+unfolding num16 num64 cutAt badAt frameOf faultless transferred recordOf pack
 starts = refl

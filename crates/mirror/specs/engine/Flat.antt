@@ -41,8 +41,8 @@ modesOf r =
     }
 
 -- the registers put together again
-abbrev pub registersWith : ℕ → Address → ℕ → Bool → Modes → Registers
-registersWith chip a shift good m =
+abbrev pub registersWith : ℕ → Address → ℕ → Bool → ℕ → Modes → Registers
+registersWith chip a shift good written m =
     record {
       chip = chip;
       address = a;
@@ -55,4 +55,5 @@ registersWith chip a shift good m =
       eight = m .eight;
       function = m .function;
       good = good;
+      written = written;
     }

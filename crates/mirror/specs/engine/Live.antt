@@ -26,7 +26,7 @@ abbrev pub addressAt : Live → Address
 addressAt k = addressOf (k .patterned) (k .display) (k .pattern)
 
 abbrev pub registersOf : Live → Registers
-registersOf k = registersWith (k .chip) (addressAt k) (k .shift) (k .good) (k .modes)
+registersOf k = registersWith (k .chip) (addressAt k) (k .shift) (k .good) (k .written) (k .modes)
 
 -- the half that waits: none, one that the busy chip ignored, or one that counts
 abbrev pub halfFrom : ℕ → Bool → Bool → ℕ → Half

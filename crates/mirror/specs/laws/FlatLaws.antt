@@ -25,6 +25,6 @@ address-back a {b} {d} {p} s =
     by (Pattern y) = refl
 
 pub registers-back : (r : Registers) {b : Bool} {d : DisplayAddress} {p : PatternAddress} {m : Modes} → Stands (r .address) b d p → m ≡ modesOf r →
-    registersWith (r .chip) (addressOf b d p) (r .shift) (r .good) m ≡ r
+    registersWith (r .chip) (addressOf b d p) (r .shift) (r .good) (r .written) m ≡ r
 registers-back r {b} {d} {p} {m} s g =
-    ap (λ x. registersWith (r .chip) x (r .shift) (r .good) m) (address-back (r .address) s) ∙ ap (λ x. registersWith (r .chip) (r .address) (r .shift) (r .good) x) g
+    ap (λ x. registersWith (r .chip) x (r .shift) (r .good) (r .written) m) (address-back (r .address) s) ∙ ap (λ x. registersWith (r .chip) (r .address) (r .shift) (r .good) (r .written) x) g

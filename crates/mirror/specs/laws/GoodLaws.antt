@@ -10,6 +10,7 @@ use Rattle.laws.specs.Pick.{pick}
 use Rattle.log.specs.Frame.{timeOf, rsOf, rwOf, isTransfer, isReset, cutAt, badAt}
 use Rattle.chip.specs.Step.{obeyed, written, passed}
 use Rattle.chip.specs.laws.GoodLaws.{low-doubtful, move-good, shift-leaves, function-doubtful, set-good, write-doubtful, read-good}
+use Rattle.chip.specs.declared.sheet.Sheet.{Sheet}
 use Rattle.mirror.specs.Answer.{carriedOut}
 use Rattle.mirror.specs.Panel.{soundPanel}
 use Rattle.mirror.specs.Words.{isGood, nibbleOf, high, hereOf, statusOf}
@@ -18,23 +19,17 @@ use Rattle.mirror.specs.Case.{Acts, Case}
 use Rattle.mirror.specs.Case.Case.{unsound, cut, bad, back, reset, torn, ignored, nothing, held, status, doubtful, taken}
 use Rattle.mirror.specs.Answers.{answerTo, panelAfter}
 use Rattle.mirror.specs.Good.{CarriedOut, Instructed, Remembered, DataRead, readThere, ReadAnswered, GoodOrDoubtful}
+use Rattle.mirror.specs.laws.CarriedLaws.{carried-sheet, reset-sheet}
 use Rattle.mirror.specs.laws.RecordKeeps.{not-both, untaken-keeps}
 use Rattle.mirror.specs.laws.TableLaws.{tabled}
 use Rattle.mirror.specs.laws.TableCase.{case, answer-case, answer-panel, answer-number}
 use Rattle.mirror.specs.declared.panel.Panel.{Panel}
 
 module _ (p : Panel) (log : List ℕ) where
-  -- the sheet after what is carried out
-  sheet-after : carriedOut (answerTo p log) ≡ true → isGood (panelAfter p log) ≡ sheetFor p log .registers .good
-  sheet-after o = ap isGood (answer-panel p log) ∙ by o
-    where
-      by : carriedOut (answerTo p log) ≡ true → isGood (panelFor (answerTo p log) p log) ≡ sheetFor p log .registers .good
-      by e = rw e
-
   -- by what was carried out
-  carried-sheet : {rs reads : Bool} → CarriedOut p log rs reads →
+  carried-good : {rs reads : Bool} → CarriedOut p log rs reads →
       isGood (panelAfter p log) ≡ pick rs (pick reads (passed (p .sheet)) (written (byteOf p log) (p .sheet))) (obeyed (byteOf p log) (p .sheet)) .registers .good
-  carried-sheet c = sheet-after (c .out) ∙ rw (c .transfer, c .rs-is, c .reads-is)
+  carried-good c = ap (λ (s : Sheet). s .registers .good) (carried-sheet p log c)
 
   -- an instruction that is carried out is not 00h
   some-code : Instructed p log → 1 ≤ byteOf p log
@@ -62,16 +57,16 @@ module _ (p : Panel) (log : List ℕ) where
   remembered : Remembered p log
   remembered =
       record {
-        address-set = λ c l. carried-sheet c ∙ set-good (byteOf p log) (p .sheet) l;
-        cursor-shift = λ c l h. carried-sheet c ∙ move-good (byteOf p log) (p .sheet) l h;
-        read = λ c. carried-sheet c ∙ read-good (p .sheet);
+        address-set = λ c l. carried-good c ∙ set-good (byteOf p log) (p .sheet) l;
+        cursor-shift = λ c l h. carried-good c ∙ move-good (byteOf p log) (p .sheet) l h;
+        read = λ c. carried-good c ∙ read-good (p .sheet);
         fresh = λ chip r l s. refl;
-        reset = λ o e. sheet-after o ∙ rw e;
-        display-shift = λ c l h. carried-sheet c ∙ shift-leaves (byteOf p log) (p .sheet) l h;
+        reset = λ o e. ap (λ (s : Sheet). s .registers .good) (reset-sheet p log o e);
+        display-shift = λ c l h. carried-good c ∙ shift-leaves (byteOf p log) (p .sheet) l h;
         not-carried-out = λ o. ap isGood (untaken-keeps p log o);
-        other-low = λ c h. carried-sheet c ∙ low-doubtful (byteOf p log) (p .sheet) (some-code c) h;
-        other-high = λ c l h. carried-sheet c ∙ function-doubtful (byteOf p log) (p .sheet) l h;
-        write = λ c. carried-sheet c ∙ write-doubtful (byteOf p log) (p .sheet);
+        other-low = λ c h. carried-good c ∙ low-doubtful (byteOf p log) (p .sheet) (some-code c) h;
+        other-high = λ c l h. carried-good c ∙ function-doubtful (byteOf p log) (p .sheet) l h;
+        write = λ c. carried-good c ∙ write-doubtful (byteOf p log) (p .sheet);
       }
 
   -- a first half comes where none waits

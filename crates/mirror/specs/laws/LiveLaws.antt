@@ -33,12 +33,12 @@ withParts p r h =
 
 pub opened : (p : Panel) {b : Bool} {d : DisplayAddress} {q : PatternAddress} {m : Modes} (h : Half) →
     Stands (p .sheet .registers .address) b d q → m ≡ modesOf (p .sheet .registers) → p .half ≡ h →
-    withParts p (registersWith (p .sheet .registers .chip) (addressOf b d q) (p .sheet .registers .shift) (p .sheet .registers .good) m) h ≡ p
+    withParts p (registersWith (p .sheet .registers .chip) (addressOf b d q) (p .sheet .registers .shift) (p .sheet .registers .good) (p .sheet .registers .written) m) h ≡ p
 opened p h s g k = ap (λ x. withParts p x h) (registers-back (p .sheet .registers) s g) ∙ ap (λ x. withParts p (p .sheet .registers) x) (sym k)
 
 -- a state with its registers and its busy end set anew
-abbrev withBusy : Live → ℕ → Bool → DisplayAddress → PatternAddress → ℕ → Bool → Modes → ℕ → Live
-withBusy k chip b d p shift good m busy =
+abbrev withBusy : Live → ℕ → Bool → DisplayAddress → PatternAddress → ℕ → Bool → ℕ → Modes → ℕ → Live
+withBusy k chip b d p shift good written m busy =
     record {
       chip = chip;
       patterned = b;
@@ -46,6 +46,7 @@ withBusy k chip b d p shift good m busy =
       pattern = p;
       shift = shift;
       good = good;
+      written = written;
       modes = m;
       busy = busy;
       waits = k .waits;
@@ -60,13 +61,13 @@ withBusy k chip b d p shift good m busy =
 
 pub carried : (k left : Live) (r : Registers) {b : Bool} {x : DisplayAddress} {y : PatternAddress} {m : Modes} (time span : ℕ) (answer : Answer) (byte used : ℕ) →
     Passes time answer byte used k left → Stands (r .address) b x y → m ≡ modesOf r → (t : Times) (d p : List ℕ) →
-    recordedOf t (withBusy left (r .chip) b x y (r .shift) (r .good) m (time + span)) d p ≡ recorded (done time (sheetOf r d p) span (panelOf t k d p)) answer byte used
+    recordedOf t (withBusy left (r .chip) b x y (r .shift) (r .good) (r .written) m (time + span)) d p ≡ recorded (done time (sheetOf r d p) span (panelOf t k d p)) answer byte used
 carried k left r {b} {x} {y} {m} time span answer byte used w s g t d p =
     ap
     (λ (z : Recorded).
     recorded
     (record {
-      sheet = sheetOf (registersWith (r .chip) (addressOf b x y) (r .shift) (r .good) m) d p;
+      sheet = sheetOf (registersWith (r .chip) (addressOf b x y) (r .shift) (r .good) (r .written) m) d p;
       busy = time + span;
       half = z .panel .half;
       times = t;

@@ -9,7 +9,7 @@ use Rattle.log.specs.Frame.{kindOf, timeOf, dataOf, rsOf, rwOf, isReset, record
 use Rattle.log.specs.laws.FrameLaws.{Seen, seen}
 use Rattle.log.specs.laws.FrameLaws.Seen.{cut, bad, transfer, reset}
 use Rattle.log.specs.declared.frame.Frame.{Frame}
-use Rattle.chip.specs.Sheet.{freshSheet}
+use Rattle.chip.specs.Sheet.{freshSheet, onRegisters, withFunction, withGood}
 use Rattle.mirror.specs.Panel.{halfFits, soundPanel}
 use Rattle.mirror.specs.engine.Way.{Way, wholeOf, firstOf, secondOf, wayOf}
 use Rattle.mirror.specs.Words.{joinedOf, free, isGood, done}
@@ -43,15 +43,8 @@ record RowAt (n : ℕ) (p : Panel) (log : List ℕ) (r : Recorded) : Type 0 wher
 -- a panel with its width, its half and whether its next read is good set anew
 abbrev at : Bool → Half → Bool → Panel → Panel
 at eight half good p =
-    let r = p .sheet .registers in
     record {
-      sheet =
-          record {
-            registers =
-                record { chip = r .chip; address = r .address; shift = r .shift; up = r .up; follow = r .follow; on = r .on; cursor = r .cursor; blink = r .blink; eight = eight; function = r .function; good = good };
-            display = p .sheet .display;
-            pattern = p .sheet .pattern;
-          };
+      sheet = onRegisters (λ r. withGood good (withFunction eight (r .function) r)) (p .sheet);
       busy = p .busy;
       half = half;
       times = p .times;

@@ -4,7 +4,7 @@ use mathlib.Core.Path.{_≡_, refl}
 use mathlib.Core.Bool.{true, false}
 use mathlib.Core.List.{List, _∷_, _++_}
 use lib.ListN.{replicate}
-use Rattle.dots.specs.Bit.{pack}
+use Rattle.laws.specs.Bit.{pack}
 use Rattle.dots.specs.Table.{table, sum}
 use Rattle.dots.specs.Landing.{dotsFrame, countOf}
 use Rattle.chip.specs.Sizes.{oneLine, twoLines}

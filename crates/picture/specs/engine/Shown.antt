@@ -6,7 +6,7 @@ use mathlib.Core.List.{List, []}
 use lib.Dec.{ltb}
 use lib.ListN.{getD, replicate, set}
 use Rattle.laws.specs.Pick.{pick}
-use Rattle.dots.specs.Bit.{bit}
+use Rattle.laws.specs.Bit.{bit}
 use Rattle.dots.specs.Table.{sum}
 use Rattle.dots.specs.engine.Cells.{Lights, strip, block, line, page, blockSum, lineSum, pageSum}
 use Rattle.chip.specs.Sizes.{linesOf, positions, rowEnd}

@@ -9,7 +9,7 @@ use borrow.Author.Tests.{eq-eqb, ne-eqb, lt-leb}
 use lib.Dec.{eqb}
 use lib.ListN.{length, replicate}
 use Rattle.laws.specs.Pick.{pick}
-use Rattle.dots.specs.Bit.{one}
+use Rattle.laws.specs.Bit.{one}
 use Rattle.dots.specs.Landing.{Landing, dot, dotsFrame, countOf}
 use Rattle.dots.specs.laws.LandingLaws.{dot-frame, length-frame}
 use Rattle.dots.specs.engine.Cells.{page}

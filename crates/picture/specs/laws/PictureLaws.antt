@@ -6,7 +6,7 @@ use mathlib.Core.List.{List}
 use lib.Dec.{ltb, eqb}
 use lib.ListN.{getD}
 use Rattle.laws.specs.Pick.{pick}
-use Rattle.dots.specs.Bit.{bit}
+use Rattle.laws.specs.Bit.{bit}
 use Rattle.dots.specs.laws.TableLaws.{table-cong}
 use Rattle.chip.specs.Sizes.{rowEnd}
 use Rattle.chip.specs.Sheet.{withPattern}

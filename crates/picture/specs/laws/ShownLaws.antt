@@ -11,8 +11,8 @@ use lib.Dec.{ltb, eqb}
 use lib.ListN.{length, getD, replicate, set, getD-replicate}
 use lib.Seq.{getD-set-same, getD-set-other}
 use Rattle.laws.specs.Pick.{pick}
-use Rattle.dots.specs.Bit.{bit, one}
-use Rattle.dots.specs.laws.BitLaws.{bit-lt, one-bit, bit-of-zero}
+use Rattle.laws.specs.Bit.{bit, one}
+use Rattle.laws.specs.laws.BitLaws.{bit-lt, one-bit, bit-of-zero}
 use Rattle.dots.specs.Table.{sum, table}
 use Rattle.dots.specs.laws.TableLaws.{getD-table, length-table, sum-le}
 use Rattle.dots.specs.laws.PartsLaws.{part-back, place-back}

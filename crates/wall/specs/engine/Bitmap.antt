@@ -2,7 +2,7 @@
 use Prim.Native.Nat.{ℕ, _<_}
 use mathlib.Core.Path.{_≡_}
 use mathlib.Core.List.{List}
-use Rattle.dots.specs.Bit.{one}
+use Rattle.laws.specs.Bit.{one}
 use Rattle.picture.specs.Frame.{litAt}
 
 pub record DotBit (chip : ℕ) (f : List ℕ) (r x bit : ℕ) : Type 0 where

@@ -6,7 +6,8 @@ use native.Mathlib.Omega.{arith}
 use borrow.Author.Tests.{eq-eqb, ne-eqb}
 use lib.ListN.{length, drop}
 use Rattle.chip.specs.Sizes.{displaySize}
-use Rattle.chip.specs.Sound.{faultless, unblank, blankPast}
+use Rattle.chip.specs.Written.{unblank}
+use Rattle.chip.specs.Sound.{faultless, blankPast}
 use Rattle.chip.specs.laws.SoundLaws.{faultless-here, faultless-end}
 use Rattle.chip.proofs.sheet.blank_past.Statement.{statement}
 use Rattle.chip.proofs.sheet.blank_past.Tie as tie

@@ -41,8 +41,11 @@ array-read-t42 c = search needs
 array-read-t45 : tie.Need-array-read-t45
 array-read-t45 c = search needs
 
+num32-requires : tie.Need-num32-requires
+num32-requires c κs = search needs
+
 returns : tie.Need-returns
-returns c = rw (c .address-of .ensures)
+returns c = rw (c .num32 .ensures, c .before .address-of .ensures)
 
 pub registers-of-spec : {M : Type 1} → statement M
 registers-of-spec =
@@ -61,4 +64,5 @@ registers-of-spec =
     array-read-t38
     array-read-t42
     array-read-t45
+    num32-requires
     returns)

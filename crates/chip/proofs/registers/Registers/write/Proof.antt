@@ -1,6 +1,8 @@
+use denote.Ref.{now}
 use mathlib.Core.Path.{ap, _∙_}
 use mathlib.Core.Bool.{false}
-use Rattle.chip.specs.Step.{nextGood, followed}
+use Rattle.chip.specs.Sheet.{sheetOf}
+use Rattle.chip.specs.Step.{stepped, nextGood, markedAt, followed}
 use Rattle.chip.specs.laws.StepLaws.{written-as}
 use borrow.Author.Needs.{needs}
 use Rattle.chip.proofs.registers.Registers.write.Statement.{statement}
@@ -18,6 +20,9 @@ enum-known-a c = search needs
 write-requires : tie.Need-write-requires
 write-requires c κs = search needs
 
+mark-requires : tie.Need-mark-requires
+mark-requires c κs = search needs
+
 followed-requires : tie.Need-followed-requires
 followed-requires c κs = search needs
 
@@ -32,9 +37,12 @@ followed-requires-2 c κs = search needs
 
 returns : tie.Need-returns
 returns c =
-    rw (c .before .write .ensures)
-    (c .followed .ensures _ _ ∙ ap (followed (c .before .before .before .before .before .before .before .before .args .self .follow)) (c .before .before .before .before .before .before .next-good .ensures _ _ ∙ ap (nextGood false) (c .before .before .before .before .before .before .before .step .ensures _ _)) ∙
-    written-as _ _ _ (c .before .before .before .before .a .given .1))
+    let a = c .before .before .before .before .before .before .before .before .before .before .args in
+    let d = c .before .before .before .before .before .before .a .given .0 .0 in
+    let m = c .before .before .before .write .last .1 .1 .1 .0 in
+    c .followed .ensures _ _ ∙ ap (followed (a .self .follow)) (c .before .mark .ensures _ _ ∙ ap (markedAt d m) (c .before .before .before .before .before .before .before .before .next-good .ensures _ _ ∙ ap (nextGood false) (c .before .before .before .before .before .before .before .before .before .step .ensures _ _))) ∙
+    ap (λ x. followed (a .self .follow) (markedAt d x (nextGood false (stepped (a .self .up) (sheetOf (a .self) x (now (a .pattern))))))) (c .before .before .before .write .ensures) ∙
+    written-as _ _ _ (c .before .before .before .before .before .before .a .given .1)
 
 returns-2 : tie.Need-returns-2
 returns-2 c =
@@ -49,6 +57,7 @@ write-spec =
     next-good-requires
     enum-known-a
     write-requires
+    mark-requires
     followed-requires
     enum-known-a-2
     write-requires-2

@@ -30,11 +30,17 @@ blank-past-requires c κs = search needs
 returns-5 : tie.Need-returns-5
 returns-5 c = rw (← c .before .before .before .before .before .before .before .before .before .known .ensures, c .before .before .before .before .before .before .before .before .if1 .left, ← c .before .before .before .before .before .before .before .fits2 .ensures, c .before .before .before .before .before .before .if2 .left, lt-leb _ _ (c .before .before .before .before .if3 .left), lt-leb _ _ (c .before .before .if4 .left), ← c .before .blank-past .ensures, c .if5 .taken)
 
+agree-requires : tie.Need-agree-requires
+agree-requires c κs = search needs
+
+returns-6 : tie.Need-returns-6
+returns-6 c = rw (← c .before .before .before .before .before .before .before .before .before .before .before .known .ensures, c .before .before .before .before .before .before .before .before .before .before .if1 .left, ← c .before .before .before .before .before .before .before .before .before .fits2 .ensures, c .before .before .before .before .before .before .before .before .if2 .left, lt-leb _ _ (c .before .before .before .before .before .before .if3 .left), lt-leb _ _ (c .before .before .before .before .if4 .left), ← c .before .before .before .blank-past .ensures, c .before .before .if5 .left, ← c .before .agree .ensures, c .if6 .taken)
+
 pattern-fits-requires : tie.Need-pattern-fits-requires
 pattern-fits-requires c κs = search needs
 
-returns-6 : tie.Need-returns-6
-returns-6 c = rw (c .pattern-fits .ensures, ← c .before .before .before .before .before .before .before .before .before .before .known .ensures, c .before .before .before .before .before .before .before .before .before .if1 .left, ← c .before .before .before .before .before .before .before .before .fits2 .ensures, c .before .before .before .before .before .before .before .if2 .left, lt-leb _ _ (c .before .before .before .before .before .if3 .left), lt-leb _ _ (c .before .before .before .if4 .left), ← c .before .before .blank-past .ensures, c .before .if5 .left)
+returns-7 : tie.Need-returns-7
+returns-7 c = rw (c .pattern-fits .ensures, ← c .before .before .before .before .before .before .before .before .before .before .before .before .known .ensures, c .before .before .before .before .before .before .before .before .before .before .before .if1 .left, ← c .before .before .before .before .before .before .before .before .before .before .fits2 .ensures, c .before .before .before .before .before .before .before .before .before .if2 .left, lt-leb _ _ (c .before .before .before .before .before .before .before .if3 .left), lt-leb _ _ (c .before .before .before .before .before .if4 .left), ← c .before .before .before .before .blank-past .ensures, c .before .before .before .if5 .left, ← c .before .before .agree .ensures, c .before .if6 .left)
 
 pub sound-spec : {M : Type 1} → statement M
 sound-spec =
@@ -49,5 +55,7 @@ sound-spec =
     returns-4
     blank-past-requires
     returns-5
+    agree-requires
+    returns-6
     pattern-fits-requires
-    returns-6)
+    returns-7)
