@@ -1,4 +1,5 @@
 pub mod Answer
+pub mod Refusal
 pub mod Panel
 pub mod Words
 pub mod Table

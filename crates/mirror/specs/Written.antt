@@ -13,8 +13,10 @@ use Rattle.chip.specs.Sizes.{placesOf, displaySize}
 use Rattle.chip.specs.Written.{unblank, isWritten, writtenIn}
 use Rattle.chip.specs.declared.address.DisplayAddress.{DisplayAddress}
 use Rattle.chip.specs.declared.address.PatternAddress.{PatternAddress}
+use Rattle.chip.specs.declared.address.Address.{Address}
 use Rattle.chip.specs.declared.address.Address.the-variants.{Display, Pattern}
 use Rattle.mirror.specs.Answer.{carriedOut}
+use Rattle.mirror.specs.Refusal.{numbered}
 use Rattle.mirror.specs.Panel.{freshPanel, soundPanel}
 use Rattle.mirror.specs.Table.{byteOf}
 use Rattle.mirror.specs.Answers.{answerTo, panelAfter, Proper}
@@ -32,10 +34,8 @@ abbrev pub writtenPaper : PlacesWritten → WrittenPaper
 writtenPaper (Bits bits) = record { number = none; bits = bits }
 writtenPaper Unsound = record { number = some 10; bits = 0 }
 
--- the same number, with 0 for none
 abbrev pub writtenRefusal : PlacesWritten → ℕ
-writtenRefusal (Bits bits) = 0
-writtenRefusal Unsound = 10
+writtenRefusal answer = numbered (writtenPaper answer .number)
 
 -- what the walk over display memory answers
 abbrev pub walkOf : Panel → ℕ
@@ -70,14 +70,10 @@ pub record Agree (p : Panel) : Type 0 where
   -- past the chip's own places, on one line from 16 on, it is 0
   pub past : Whole p → (a : ℕ) → placesOf (p .sheet .registers .chip) ≤ a → a < displaySize → bitAt p a ≡ 0
 
--- a data write that is carried out with the address in display memory, and with it in pattern memory
-pub record DisplayWrite (p : Panel) (log : List ℕ) (d : DisplayAddress) : Type 0 where
+-- a data write that is carried out at an address
+pub record WritesAt (p : Panel) (log : List ℕ) (a : Address) : Type 0 where
   pub stores : CarriedOut p log true false
-  pub there : p .sheet .registers .address ≡ Display d
-
-pub record PatternWrite (p : Panel) (log : List ℕ) (q : PatternAddress) : Type 0 where
-  pub stores : CarriedOut p log true false
-  pub there : p .sheet .registers .address ≡ Pattern q
+  pub there : p .sheet .registers .address ≡ a
 
 -- the bits after a record are those before it
 abbrev pub Stay : Panel → List ℕ → Type 0
@@ -88,10 +84,10 @@ pub record Keeps (p : Panel) (log : List ℕ) : Type 0 where
   -- a sound panel's are the walk's answer afterwards too
   pub still : Proper p log → Agree (panelAfter p log)
   -- a display write sets the bit of its address for a byte that isn't 20h and clears it for 20h; every other bit stays as it was
-  pub display-write : (d : DisplayAddress) → Whole p → DisplayWrite p log d → (a : ℕ) → a < displaySize →
+  pub display-write : (d : DisplayAddress) → Whole p → WritesAt p log (Display d) → (a : ℕ) → a < displaySize →
       bitAt (panelAfter p log) a ≡ pick (eqb a (d .0 % placesOf (p .sheet .registers .chip))) (one (unblank (byteOf p log))) (bitAt p a)
   -- a write in pattern memory changes none, nor does a data read, good or doubtful
-  pub pattern-write : (q : PatternAddress) → PatternWrite p log q → Stay p log
+  pub pattern-write : (q : PatternAddress) → WritesAt p log (Pattern q) → Stay p log
   pub read : CarriedOut p log true true → Stay p log
   -- a fresh panel has none, and after a reset or Clear, 01h, there are none
   pub fresh : (chip reset long short : ℕ) → freshPanel chip reset long short .sheet .registers .written ≡ 0

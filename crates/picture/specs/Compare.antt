@@ -11,7 +11,7 @@ use Rattle.dots.specs.Landing.{dot}
 use Rattle.dots.specs.First.{firstDot, Before}
 use Rattle.chip.specs.Sizes.{isKnown}
 use Rattle.picture.specs.Frame.{glass}
-use Rattle.picture.specs.Refusal.{numbered}
+use Rattle.mirror.specs.Refusal.{numbered}
 use Rattle.picture.specs.declared.compare.Compared.{Compared}
 use Rattle.picture.specs.declared.compare.Compared.the-variants.{At, Same, Size, Unknown}
 

@@ -2,7 +2,6 @@ pub mod Pattern
 pub mod Cursor
 pub mod Frame
 pub mod Picture
-pub mod Refusal
 pub mod Paint
 pub mod Compare
 pub mod engine

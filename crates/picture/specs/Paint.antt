@@ -13,7 +13,7 @@ use Rattle.mirror.specs.declared.panel.Panel.{Panel}
 use Rattle.picture.specs.Pattern.{fontSize}
 use Rattle.picture.specs.Frame.{glass}
 use Rattle.picture.specs.Picture.{lit}
-use Rattle.picture.specs.Refusal.{numbered}
+use Rattle.mirror.specs.Refusal.{numbered}
 use Rattle.picture.specs.declared.paint.Painted.{Painted}
 use Rattle.picture.specs.declared.paint.Painted.the-variants.{Lit, Size, Unsound}
 

@@ -5,6 +5,7 @@ use mathlib.Core.Bool.{Bool}
 use borrow.Author.Needs.{needs}
 use native.Mathlib.Omega.{arith}
 use mir.Val.{boolByte}
+use lib.Bits.{bitOr, bitXor}
 use lib.Pow.{shl-exact}
 use Rattle.laws.specs.Bit.{one}
 use Rattle.laws.specs.laws.BitLaws.{one-lt, bit-anew}
@@ -36,8 +37,9 @@ shl-result c = search needs
 returns : tie.Need-returns
 returns c =
     let a = c .args in
-    rw (shl-exact {a = 1} 1 (a .place) displaySize (omega arith) (omega arith), kept (a .set) (a .place) (c .pre))
-    (bit-anew displaySize (a .place) (a .set) (a .bits) (c .pre) (omega arith))
+    ap (λ (m : ℕ). bitOr (bitXor (bitOr (a .bits) m) m) (boolByte (a .set) * 2 ^ a .place % 2 ^ displaySize)) (shl-exact {a = 1} 1 (a .place) displaySize (omega arith) (omega arith))
+    ∙ ap (λ (v : ℕ). bitOr (bitXor (bitOr (a .bits) (1 * 2 ^ a .place)) (1 * 2 ^ a .place)) v) (kept (a .set) (a .place) (c .pre))
+    ∙ bit-anew displaySize (a .place) (a .set) (a .bits) (c .pre) (omega arith)
 
 pub with-bit-spec : {M : Type 1} → statement M
 with-bit-spec = tie.close (tie.spec cast-bit shl-bit cast-result cast-result-2 shl-result returns)

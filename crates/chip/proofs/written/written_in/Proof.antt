@@ -36,9 +36,10 @@ turned display bits a l z h e =
     back : a ≡ suc (a - 1)
     back = omega arith
 
--- a number of 32 bits
-small : (display : List ℕ) (a n : ℕ) → n ≡ writtenIn (displaySize - (a - 1)) (drop (a - 1) display) → n < 2 ^ displaySize
-small display a n e = omega (arith, e, walk-lt displaySize (displaySize - (a - 1)) (drop (a - 1) display) (omega arith))
+-- it is a number of 32 bits
+small : (display : List ℕ) (bits a : ℕ) → length display ≡ displaySize → 0 < a → a ≤ displaySize → bits ≡ writtenIn (displaySize - a) (drop a display) →
+    bits * 2 + boolByte (unblank (getD display (a - 1) 0)) < 2 ^ displaySize
+small display bits a l z h e = omega (arith, turned display bits a l z h e, walk-lt displaySize (displaySize - (a - 1)) (drop (a - 1) display) (omega arith))
 
 loop-holds : tie.Need-loop-holds Inv-loop μ-loop
 loop-holds c = (search needs, omega arith, sym (none (drop displaySize (c .args .t1))))
@@ -47,10 +48,7 @@ sub-a : tie.Need-sub-a Inv-loop μ-loop
 sub-a c = search needs
 
 mul-bits : tie.Need-mul-bits Inv-loop μ-loop
-mul-bits c =
-    let l = c .before .loop in
-    let d = c .before .before .args .t1 in
-    omega (arith, small d (l .a) (l .bits * 2 + boolByte (unblank (getD d (l .a - 1) 0))) (turned d (l .bits) (l .a) (l .inv .0) (omega arith) (l .inv .1) (l .inv .2)))
+mul-bits c = let l = c .before .loop in omega (arith, small (c .before .before .args .t1) (l .bits) (l .a) (l .inv .0) (omega arith) (l .inv .1) (l .inv .2))
 
 array-read-bits : tie.Need-array-read-bits Inv-loop μ-loop
 array-read-bits c = search needs
@@ -59,10 +57,7 @@ cast-bits : tie.Need-cast-bits Inv-loop μ-loop
 cast-bits c = search needs
 
 add-bits : tie.Need-add-bits Inv-loop μ-loop
-add-bits c =
-    let l = c .before .loop in
-    let d = c .before .before .args .t1 in
-    omega (arith, small d (l .a) (l .bits * 2 + boolByte (unblank (getD d (l .a - 1) 0))) (turned d (l .bits) (l .a) (l .inv .0) (omega arith) (l .inv .1) (l .inv .2)))
+add-bits c = let l = c .before .loop in omega (arith, small (c .before .before .args .t1) (l .bits) (l .a) (l .inv .0) (omega arith) (l .inv .1) (l .inv .2))
 
 loop-less : tie.Need-loop-less Inv-loop μ-loop
 loop-less c = search needs
