@@ -4,3 +4,4 @@ pub mod ByRows
 pub mod First
 pub mod engine
 pub mod laws
+pub mod cases

@@ -1,8 +1,9 @@
 pub mod PartsLaws
 pub mod ColumnLaws
 pub mod TableLaws
+pub mod SumLaws
 pub mod LandingLaws
 pub mod CellsLaws
 pub mod FirstLaws
-pub mod TallyLaws
+pub mod ThroughLaws
 pub mod OnesLaws

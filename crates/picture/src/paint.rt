@@ -1,13 +1,13 @@
-// The painter. It goes by cells, dot by dot, and tallies row by row as it paints.
+// The painter. It goes by cells, dot by dot.
 ghost use mathlib.Core.Path.{_≡_};
 ghost use Prim.Native.Nat.{_+_, _≤_, _<_};
 ghost use lib.ListN.{length};
 ghost use Rattle.chip.specs.Sizes.{linesOf};
 ghost use Rattle.picture.specs.Pattern.{tall, wide, fontSize, patternsOf};
 ghost use Rattle.picture.specs.Frame.{glass};
-ghost use Rattle.dots.specs.Table.{sum};
-ghost use Rattle.picture.specs.engine.Shown.{PutsCell, PutsLine, PutsPage, PutsRow, rowDot, shapeFrom, shownOf};
+ghost use Rattle.picture.specs.engine.Shown.{cellPut, columnPut, linePut, pagePut, shapeFrom, shownOf};
 ghost use Rattle.picture.specs.Paint.{Paints, paintRefusal};
+use crate::count::ones;
 use crate::cursor::here;
 use crate::frame::clear;
 use crate::frame::frame_size;
@@ -92,38 +92,28 @@ fn shown(
     rows
 }
 
-// How many of a row's five dots are lit.
-fn lit_in(dots: u8) -> usize
-    ensures { λ n. ⌜ n ≡ sum (rowDot dots) wide ⌝ }
+// Paints column c of a cell, whose upper left dot is (top, left).
+fn put_column(chip: u8, frame: &mut [u8], top: usize, left: usize, rows: [u8; TALL], c: usize)
+    requires { ⌜ (length (now frame) ≡ glass chip .size) × (top + tall ≤ glass chip .rows) × (left + wide ≤ glass chip .cols) × (c < wide) ⌝ }
+    ensures { λ _. ⌜ now (frame .exit) ≡ columnPut chip rows top left c (now (frame .entry)) ⌝ }
 {
-    u8::count_ones(dots & FULL) as usize
+    for i in 0..TALL {
+        let v = (rows[i] >> (WIDE - 1 - c)) & 1;
+        put_dot(chip, frame, top + i, left + c, v);
+    }
 }
 
-// Paints a row of a cell, whose leftmost dot is (row, left).
-fn put_row(chip: u8, frame: &mut [u8], row: usize, left: usize, dots: u8) -> usize
-    requires { ⌜ (length (now frame) ≡ glass chip .size) × (row < glass chip .rows) × (left + wide ≤ glass chip .cols) ⌝ }
-    ensures { λ n. ⌜ PutsRow chip dots row left (now (frame .entry)) (now (frame .exit)) n ⌝ }
+// Paints a cell, whose upper left dot is (top, left): by columns, which is faster than by rows (docs/DECISIONS.md, "Speed").
+fn put_cell(chip: u8, frame: &mut [u8], top: usize, left: usize, rows: [u8; TALL])
+    requires { ⌜ (length (now frame) ≡ glass chip .size) × (top + tall ≤ glass chip .rows) × (left + wide ≤ glass chip .cols) ⌝ }
+    ensures { λ _. ⌜ now (frame .exit) ≡ cellPut chip rows top left (now (frame .entry)) ⌝ }
 {
     for c in 0..WIDE {
-        let v = (dots >> (WIDE - 1 - c)) & 1;
-        put_dot(chip, frame, row, left + c, v);
+        put_column(chip, frame, top, left, rows, c);
     }
-    lit_in(dots)
 }
 
-// Paints a cell, whose upper left dot is (top, left).
-fn put_cell(chip: u8, frame: &mut [u8], top: usize, left: usize, rows: [u8; TALL]) -> usize
-    requires { ⌜ (length (now frame) ≡ glass chip .size) × (top + tall ≤ glass chip .rows) × (left + wide ≤ glass chip .cols) ⌝ }
-    ensures { λ n. ⌜ PutsCell chip rows top left (now (frame .entry)) (now (frame .exit)) n ⌝ }
-{
-    let mut lit = 0;
-    for i in 0..TALL {
-        lit += put_row(chip, frame, top + i, left, rows[i]);
-    }
-    lit
-}
-
-// Paints a line; answers how many of its dots are lit.
+// Paints a line.
 fn put_line(
     frame: &mut [u8],
     sheet: Sheet,
@@ -131,32 +121,28 @@ fn put_line(
     font: &[u8],
     dark: bool,
     line: usize,
-) -> usize
+)
     requires { ⌜ (length (now frame) ≡ glass (sheet .registers .chip) .size) × (own ≡ patternsOf (sheet .pattern)) × (length (now font) ≡ fontSize) × (line < linesOf (sheet .registers .chip)) ⌝ }
-    ensures { λ n. ⌜ PutsLine sheet (now (font .entry)) dark line (now (frame .entry)) (now (frame .exit)) n ⌝ }
+    ensures { λ _. ⌜ now (frame .exit) ≡ linePut sheet (now (font .entry)) dark line (now (frame .entry)) ⌝ }
 {
     let chip = sheet.registers.chip;
-    let mut total = 0;
     for p in 0..POSITIONS {
         let rows = shown(sheet, own, font, dark, line, p);
-        total += put_cell(chip, frame, line * TALL, p * WIDE, rows);
+        put_cell(chip, frame, line * TALL, p * WIDE, rows);
     }
-    total
 }
 
-// Paints every line; answers how many dots are lit.
-fn put_lines(frame: &mut [u8], sheet: Sheet, font: &[u8], dark: bool) -> usize
+// Paints every line.
+fn put_lines(frame: &mut [u8], sheet: Sheet, font: &[u8], dark: bool)
     requires { ⌜ (length (now frame) ≡ glass (sheet .registers .chip) .size) × (length (now font) ≡ fontSize) ⌝ }
-    ensures { λ n. ⌜ PutsPage sheet (now (font .entry)) dark (now (frame .entry)) (now (frame .exit)) n ⌝ }
+    ensures { λ _. ⌜ now (frame .exit) ≡ pagePut sheet (now (font .entry)) dark (now (frame .entry)) ⌝ }
 {
     let memory = sheet.pattern;
     let own = patterns(memory);
     let count = lines(sheet.registers.chip);
-    let mut lit = 0;
     for line in 0..count {
-        lit += put_line(frame, sheet, own, font, dark, line);
+        put_line(frame, sheet, own, font, dark, line);
     }
-    lit
 }
 
 // Paints the panel's picture into the frame, with the blink dark or not; answers how many dots are lit. Where it refuses,
@@ -176,5 +162,6 @@ pub fn paint(panel: Panel, font: &[u8], dark: bool, frame: &mut [u8]) -> Painted
         return Painted::Size;
     }
     clear(chip, frame);
-    Painted::Lit(put_lines(frame, sheet, font, dark))
+    put_lines(frame, sheet, font, dark);
+    Painted::Lit(ones(frame))
 }

@@ -1,4 +1,4 @@
--- Painting every cell of every line from a blank frame gives the frame, and what was added up is its count; for any landing.
+-- Painting every cell of every line from a blank frame gives the frame; for any landing.
 use Prim.Native.Nat.{ℕ, zero, suc, _+_, _*_, _/_, _%_, _≤_, _<_, max}
 use mathlib.Core.Path.{_≡_, sym, ap, ap₂, _∙_, subst}
 use mathlib.Core.Bool.{Bool, false}
@@ -9,11 +9,10 @@ use native.Mathlib.Omega.{arith}
 use lib.ListN.{length, getD, replicate, length-replicate, getD-replicate, List·getD-eq-default}
 use Rattle.laws.specs.Bit.{bit, one}
 use Rattle.laws.specs.laws.BitLaws.{one-lt, bit-of-zero}
-use Rattle.dots.specs.Table.{sum}
-use Rattle.dots.specs.engine.Cells.{inOrder, put, strip, block, line, page, pageSum}
+use Rattle.dots.specs.engine.Cells.{inOrder, put, strip, block, line, page}
 use Rattle.dots.specs.laws.PartsLaws.{place-in, part-of, place-of}
-use Rattle.dots.specs.laws.TableLaws.{in-order-keeps, sum-cong, sum-blocks, sum-swap}
-use Rattle.dots.specs.Landing.{Landing, dot, dotsFrame, countOf}
+use Rattle.dots.specs.laws.TableLaws.{in-order-keeps}
+use Rattle.dots.specs.Landing.{Landing, dot, dotsFrame}
 use Rattle.dots.specs.laws.LandingLaws.{Bytes, is-frame, length-put, put-same, put-other, put-spare, put-bytes}
 
 -- steps that paint g, over any landing
@@ -110,13 +109,13 @@ module _ (L : Landing) (g : ℕ → ℕ → Bool) where
     col-ok : (p c : ℕ) → p < across → c < wide → p * wide + c < L .cols
     col-ok p c hp hc = omega (arith, place-in wide across p c hp hc)
 
-    strip-keeps : (l p i : ℕ) → l < lines → p < across → i < tall → Keeps (strip L wide (v l p i) (l * tall + i) (p * wide))
-    strip-keeps l p i hl hp hi =
-        steps-keep _ wide
-        (λ c hc. put-keeps (l * tall + i) (p * wide + c) (v l p i c) (row-ok l i hl hi) (col-ok p c hp hc) (e l p i c hl hp hi hc))
+    strip-keeps : (l p c : ℕ) → l < lines → p < across → c < wide → Keeps (strip L tall (λ i. v l p i c) (l * tall) (p * wide + c))
+    strip-keeps l p c hl hp hc =
+        steps-keep _ tall
+        (λ i hi. put-keeps (l * tall + i) (p * wide + c) (v l p i c) (row-ok l i hl hi) (col-ok p c hp hc) (e l p i c hl hp hi hc))
 
     block-keeps : (l p : ℕ) → l < lines → p < across → Keeps (block L tall wide (v l p) (l * tall) (p * wide))
-    block-keeps l p hl hp = steps-keep _ tall (λ i hi. strip-keeps l p i hl hp hi)
+    block-keeps l p hl hp = steps-keep _ wide (λ c hc. strip-keeps l p c hl hp hc)
 
     line-keeps : (l : ℕ) → l < lines → Keeps (line L tall wide across (v l) (l * tall))
     line-keeps l hl = steps-keep _ across (λ p hp. block-keeps l p hl hp)
@@ -133,10 +132,10 @@ module _ (L : Landing) (g : ℕ → ℕ → Bool) where
         let hx : x < L .cols = col-ok p c hp hc in
         steps-paint _ lines l r x hr hx line-keeps hl
         (steps-paint _ across p r x hr hx (λ p hp. block-keeps l p hl hp) hp
-        (steps-paint _ tall i r x hr hx (λ i hi. strip-keeps l p i hl hp hi) hi
-        (steps-paint _ wide c r x hr hx
-        (λ c hc. put-keeps (l * tall + i) (p * wide + c) (v l p i c) (row-ok l i hl hi) (col-ok p c hp hc) (e l p i c hl hp hi hc))
-        hc (put-paints r x (v l p i c) hr hx (e l p i c hl hp hi hc)))))
+        (steps-paint _ wide c r x hr hx (λ c hc. strip-keeps l p c hl hp hc) hc
+        (steps-paint _ tall i r x hr hx
+        (λ i hi. put-keeps (l * tall + i) (p * wide + c) (v l p i c) (row-ok l i hl hi) (col-ok p c hp hc) (e l p i c hl hp hi hc))
+        hi (put-paints r x (v l p i c) hr hx (e l p i c hl hp hi hc)))))
 
     -- every dot is some cell's
     page-shows : (r x : ℕ) → r < L .rows → x < L .cols → Paints r x (page L tall wide across lines v)
@@ -173,25 +172,3 @@ module _ (L : Landing) (g : ℕ → ℕ → Bool) where
         let W : OnTheWay (page L tall wide across lines v f) = page-keeps .way f blank-way in
         is-frame L g (page L tall wide across lines v f) (W .long) (W .bytes)
         (λ r x p q. page-shows r x p q f blank-way .here) (W .spare)
-
-    -- their values added up are the count, by rows
-    pub page-count : pageSum tall wide across lines v ≡ countOf L g
-    unfolding countOf
-    page-count =
-        sum-cong (λ l. sum (λ p. sum (λ i. sum (v l p i) wide) tall) across) (λ l. sum (λ i. row (l * tall + i)) tall) lines (λ l hl. of-line l hl)
-        ∙ sym (sum-blocks row lines tall) ∙ ap (sum row) (sym high)
-      where
-        row : ℕ → ℕ
-        row r = sum (λ x. one (g r x)) (L .cols)
-
-        of-row : (r : ℕ) → sum (λ p. sum (λ c. one (g r (p * wide + c))) wide) across ≡ row r
-        of-row r = sym (sum-blocks (λ x. one (g r x)) across wide) ∙ ap (sum (λ x. one (g r x))) (sym broad)
-
-        of-line : (l : ℕ) → l < lines → sum (λ p. sum (λ i. sum (v l p i) wide) tall) across ≡ sum (λ i. row (l * tall + i)) tall
-        of-line l hl =
-            sum-swap (λ p i. sum (v l p i) wide) across tall
-            ∙ sum-cong (λ i. sum (λ p. sum (v l p i) wide) across) (λ i. row (l * tall + i)) tall
-            (λ i hi.
-            sum-cong (λ p. sum (v l p i) wide) (λ p. sum (λ c. one (g (l * tall + i) (p * wide + c))) wide) across
-            (λ p hp. sum-cong (v l p i) (λ c. one (g (l * tall + i) (p * wide + c))) wide (λ c hc. e l p i c hl hp hi hc))
-            ∙ of-row (l * tall + i))

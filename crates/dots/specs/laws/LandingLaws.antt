@@ -4,14 +4,14 @@ use mathlib.Core.Path.{_≡_, refl, sym, ap, ap₂, _∙_, subst}
 use mathlib.Core.Bool.{Bool, true, false, _&&_}
 use mathlib.Core.List.{List}
 use native.Mathlib.Nat.{lt-of-lt-of-le}
-use native.Mathlib.Decide.{ℕ-discrete}
+use native.Mathlib.Decide.{ℕ-discrete, decLt}
 use native.Mathlib.Omega.{arith}
 use lib.Pow.{shl-lt, pow-mono}
 use lib.Bits.{bitOr, or-lt}
-use lib.ListN.{length, getD, length-set}
+use lib.ListN.{length, getD, length-set, List·getD-eq-default}
 use lib.Seq.{getD-set-same, getD-set-other, ext-getD}
 use Rattle.laws.specs.Bit.{bit, one, pack}
-use Rattle.laws.specs.laws.BitLaws.{one-lt, bit-pack, is-pack, same-bits, or-same, or-other}
+use Rattle.laws.specs.laws.BitLaws.{one-lt, bit-pack, is-pack, pack-lt, same-bits, or-same, or-other}
 use Rattle.dots.specs.laws.TableLaws.{length-table, getD-table}
 use Rattle.dots.specs.Landing.{Landing, dot, dotsFrame}
 use Rattle.dots.specs.engine.Cells.{put}
@@ -48,6 +48,17 @@ module _ (L : Landing) where
   pub length-frame : (g : ℕ → ℕ → Bool) → length (dotsFrame L g) ≡ L .size
   unfolding dotsFrame
   length-frame g = length-table _ (L .size)
+
+  pub bytes-frame : (g : ℕ → ℕ → Bool) → Bytes (dotsFrame L g)
+  unfolding dotsFrame shade
+  bytes-frame g b = go (decLt b (L .size))
+    where
+      go : Dec (b < L .size) → getD (dotsFrame L g) b 0 < 256
+      go (yes p) =
+          subst (λ (a : ℕ). a < 256) (sym (getD-table (λ b. pack (shade g b) 8) (L .size) b 0 p))
+          (pack-lt (shade g b) 8 (λ k. one-lt (L .used b k && g (L .rowAt b k) (L .colAt b k))))
+      go (no d) =
+          subst (λ (a : ℕ). a < 256) (sym (List·getD-eq-default (dotsFrame L g) 0 (omega (arith, length-frame g)))) (omega arith)
 
   -- nothing else does
   pub is-frame : (g : ℕ → ℕ → Bool) (f : List ℕ) → length f ≡ L .size → Bytes f

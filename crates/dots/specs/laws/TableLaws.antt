@@ -1,14 +1,14 @@
--- Laws of `table`, `sum` and `inOrder`.
-use Prim.Native.Nat.{ℕ, zero, suc, _+_, _*_, _≤_, _<_}
+-- Laws of `table` and `inOrder`.
+use Prim.Native.Nat.{ℕ, zero, suc, _+_, _≤_, _<_}
 use mathlib.Core.Path.{_≡_, refl, sym, ap, ap₂, _∙_}
 use mathlib.Core.List.{List, _∷_}
-use native.Mathlib.Nat.{add-zero, add-suc, suc-mul, zero-mul, not-suc-le-zero, le-of-suc-le-suc}
+use native.Mathlib.Nat.{not-suc-le-zero, le-of-suc-le-suc}
 use native.Mathlib.Numerals.{add-one}
 use native.Mathlib.Decide.{ℕ-discrete}
 use native.Mathlib.Omega.{arith}
 use lib.ListN.{length, getD, set, length-set, replicate}
 use lib.Seq.{getD-set-same, getD-set-other, ext-getD}
-use Rattle.dots.specs.Table.{table, sum}
+use Rattle.dots.specs.Table.{table}
 use Rattle.dots.specs.engine.Cells.{inOrder}
 
 pub length-table : {A : Type 0} (h : ℕ → A) (n : ℕ) → length (table h n) ≡ n
@@ -60,57 +60,6 @@ pub fill-end : (h : ℕ → ℕ) (n : ℕ) (l : List ℕ) (i : ℕ) → Filled h
 fill-end h n l i F p =
     ext-getD 0 l (table h n) (F .long ∙ sym (length-table h n))
     (λ k q. F .at k (omega (arith, F .long)) ∙ sym (getD-table h n k 0 (omega (arith, F .long))))
-
-pub sum-none : (f : ℕ → ℕ) → sum f 0 ≡ 0
-unfolding sum
-sum-none f = refl
-
--- the last apart, as the code counts
-pub sum-more : (f : ℕ → ℕ) (n : ℕ) → sum f (n + 1) ≡ sum f n + f n
-unfolding sum
-sum-more f n = rw add-one
-
-pub sum-cong : (f g : ℕ → ℕ) (n : ℕ) → ((i : ℕ) → i < n → f i ≡ g i) → sum f n ≡ sum g n
-unfolding sum
-sum-cong f g zero e = refl
-sum-cong f g (suc n) e = ap₂ (λ (x y : ℕ). x + y) (sum-cong f g n (λ i p. e i (omega arith))) (e n (omega arith))
-
--- n parts of at most k each
-pub sum-le : (f : ℕ → ℕ) (k n : ℕ) → ((i : ℕ) → f i ≤ k) → sum f n ≤ n * k
-unfolding sum
-sum-le f k zero h = omega arith
-sum-le f k (suc n) h = omega (arith, h n, sum-le f k n h, suc-mul n k)
-
-pub sum-add : (f : ℕ → ℕ) (m n : ℕ) → sum f (m + n) ≡ sum f m + sum (λ i. f (m + i)) n
-unfolding sum
-sum-add f m zero = ap (sum f) (add-zero m) ∙ sym (add-zero (sum f m))
-sum-add f m (suc n) = rw add-suc (omega (arith, sum-add f m n))
-
--- a sum over m blocks of k
-pub sum-blocks : (f : ℕ → ℕ) (m k : ℕ) → sum f (m * k) ≡ sum (λ i. sum (λ j. f (i * k + j)) k) m
-unfolding sum
-sum-blocks f zero k = ap (sum f) (zero-mul k)
-sum-blocks f (suc m) k =
-    ap (sum f) (suc-mul m k) ∙ sum-add f (m * k) k
-    ∙ ap (λ (x : ℕ). x + sum (λ j. f (m * k + j)) k) (sum-blocks f m k)
-
-sum-plus : (f g : ℕ → ℕ) (n : ℕ) → sum (λ i. f i + g i) n ≡ sum f n + sum g n
-unfolding sum
-sum-plus f g zero = refl
-sum-plus f g (suc n) = omega (arith, sum-plus f g n)
-
-sum-zero : (n : ℕ) → sum (λ i. 0) n ≡ 0
-unfolding sum
-sum-zero zero = refl
-sum-zero (suc n) = omega (arith, sum-zero n)
-
--- rows of columns are columns of rows
-pub sum-swap : (f : ℕ → ℕ → ℕ) (m n : ℕ) → sum (λ i. sum (λ j. f i j) n) m ≡ sum (λ j. sum (λ i. f i j) m) n
-unfolding sum
-sum-swap f zero n = sym (sum-zero n)
-sum-swap f (suc m) n =
-    ap (λ (x : ℕ). x + sum (λ j. f m j) n) (sum-swap f m n)
-    ∙ sym (sum-plus (λ j. sum (λ i. f i j) m) (λ j. f m j) n)
 
 pub in-order-none : {A : Type 0} (step : ℕ → A → A) (a : A) → inOrder step 0 a ≡ a
 unfolding inOrder

@@ -1,5 +1,5 @@
 -- The eight rows that the painter shows at a position of a line. That their dots are the lit ones is the law `shown-lit`.
-use Prim.Native.Nat.{ℕ, _-_, _*_, _%_, _<_}
+use Prim.Native.Nat.{ℕ, _+_, _-_, _*_, _%_, _<_}
 use mathlib.Core.Path.{_≡_}
 use mathlib.Core.Bool.{Bool, not, _&&_}
 use mathlib.Core.List.{List, []}
@@ -7,8 +7,7 @@ use lib.Dec.{ltb}
 use lib.ListN.{getD, replicate, set}
 use Rattle.laws.specs.Pick.{pick}
 use Rattle.laws.specs.Bit.{bit}
-use Rattle.dots.specs.Table.{sum}
-use Rattle.dots.specs.engine.Cells.{Lights, strip, block, line, page, blockSum, lineSum, pageSum}
+use Rattle.dots.specs.engine.Cells.{strip, block, line, page}
 use Rattle.chip.specs.Sizes.{linesOf, positions, rowEnd}
 use Rattle.chip.specs.declared.sheet.Sheet.{Sheet}
 use Rattle.picture.specs.Pattern.{tall, wide, patterns, fontStart, glyphOf}
@@ -44,21 +43,18 @@ cellDot rows i = rowDot (getD rows i 0)
 abbrev pub pageDot : Sheet → List ℕ → Bool → ℕ → ℕ → ℕ → ℕ → ℕ
 pageDot s font dark l p = cellDot (shownOf s font dark l p)
 
--- a row of a cell put at (r, x), a cell put at (r, x), line l put, all lines put: the frame before and after, and how many dots were lit
-abbrev pub PutsRow : ℕ → ℕ → ℕ → ℕ → List ℕ → List ℕ → ℕ → Type 0
-PutsRow chip row r x = Lights (strip (glass chip) wide (rowDot row) r x) (sum (rowDot row) wide)
+-- the frame with column c of a cell put, with a cell put, its upper left dot being (r, x), with line l put, with all lines put
+abbrev pub columnPut : ℕ → List ℕ → ℕ → ℕ → ℕ → List ℕ → List ℕ
+columnPut chip rows r x c = strip (glass chip) tall (λ i. cellDot rows i c) r (x + c)
 
-abbrev pub PutsCell : ℕ → List ℕ → ℕ → ℕ → List ℕ → List ℕ → ℕ → Type 0
-PutsCell chip rows r x = Lights (block (glass chip) tall wide (cellDot rows) r x) (blockSum tall wide (cellDot rows))
+abbrev pub cellPut : ℕ → List ℕ → ℕ → ℕ → List ℕ → List ℕ
+cellPut chip rows = block (glass chip) tall wide (cellDot rows)
 
-abbrev pub PutsLine : Sheet → List ℕ → Bool → ℕ → List ℕ → List ℕ → ℕ → Type 0
-PutsLine s font dark l =
-    Lights (line (glass (s .registers .chip)) tall wide positions (pageDot s font dark l) (l * tall)) (lineSum tall wide positions (pageDot s font dark l))
+abbrev pub linePut : Sheet → List ℕ → Bool → ℕ → List ℕ → List ℕ
+linePut s font dark l = line (glass (s .registers .chip)) tall wide positions (pageDot s font dark l) (l * tall)
 
-abbrev pub PutsPage : Sheet → List ℕ → Bool → List ℕ → List ℕ → ℕ → Type 0
-PutsPage s font dark =
-    Lights (page (glass (s .registers .chip)) tall wide positions (linesOf (s .registers .chip)) (pageDot s font dark))
-    (pageSum tall wide positions (linesOf (s .registers .chip)) (pageDot s font dark))
+abbrev pub pagePut : Sheet → List ℕ → Bool → List ℕ → List ℕ
+pagePut s font dark = page (glass (s .registers .chip)) tall wide positions (linesOf (s .registers .chip)) (pageDot s font dark)
 
 -- the place is where dot (r, x) of a chip's frame lands, which is inside the frame
 pub record Lands (chip r x : ℕ) (place : Place) : Type 0 where

@@ -1,4 +1,4 @@
--- The cells painted on a blank frame are the frame of the lit dots, and what was lit is their number.
+-- The cells painted on a blank frame are the frame of the lit dots, and its ones are their number.
 use Prim.Native.Nat.{ℕ, _+_, _*_, _<_}
 use mathlib.Core.Path.{_≡_, refl, ap, _∙_}
 use mathlib.Core.Bool.{Bool, true, false, not}
@@ -12,8 +12,9 @@ use Rattle.laws.specs.Pick.{pick}
 use Rattle.laws.specs.Bit.{one}
 use Rattle.dots.specs.Landing.{Landing, dot, dotsFrame, countOf}
 use Rattle.dots.specs.laws.LandingLaws.{dot-frame, length-frame}
-use Rattle.dots.specs.engine.Cells.{page}
-use Rattle.dots.specs.laws.CellsLaws.{page-frame, page-count}
+use Rattle.dots.specs.engine.Ones.{onesOf}
+use Rattle.dots.specs.laws.CellsLaws.{page-frame}
+use Rattle.dots.specs.laws.OnesLaws.{ones-frame}
 use Rattle.chip.specs.declared.sheet.Sheet.{Sheet}
 use Rattle.mirror.specs.Panel.{soundPanel}
 use Rattle.mirror.specs.declared.panel.Panel.{Panel}
@@ -21,7 +22,7 @@ use Rattle.picture.specs.Pattern.{tall, wide, fontSize}
 use Rattle.picture.specs.Frame.{glass, litAt}
 use Rattle.chip.specs.Sizes.{linesOf, positions}
 use Rattle.picture.specs.Picture.{lit}
-use Rattle.picture.specs.engine.Shown.{PutsPage, pageDot}
+use Rattle.picture.specs.engine.Shown.{pageDot, pagePut}
 use Rattle.picture.specs.laws.ShownLaws.{shown-lit}
 use Rattle.picture.specs.Paint.{Paints, glassOf, paintPaper, dotsFor, paintedOf, frameAfter}
 use Rattle.picture.specs.declared.paint.Painted.{Painted}
@@ -38,13 +39,10 @@ module _ (s : Sheet) (font : List ℕ) (dark : Bool) where
       → pageDot s font dark l p i c ≡ one (lit s font dark (l * tall + i) (p * wide + c))
   dots l p i c hl hp hi hc = shown-lit s font dark l p i c hi hc
 
-  pub page-painted : (f after : List ℕ) (n : ℕ) → f ≡ replicate (own .size) 0 → PutsPage s font dark f after n → after ≡ dotsFrame own (lit s font dark)
-  page-painted f after n e P =
-      P .frame ∙ ap (page own tall wide positions count (pageDot s font dark)) e
+  pub page-painted : (f after : List ℕ) → f ≡ replicate (own .size) 0 → after ≡ pagePut s font dark f → after ≡ dotsFrame own (lit s font dark)
+  page-painted f after e P =
+      P ∙ ap (pagePut s font dark) e
       ∙ page-frame own (lit s font dark) tall wide positions count refl refl (pageDot s font dark) dots
-
-  pub page-counted : (f after : List ℕ) (n : ℕ) → PutsPage s font dark f after n → n ≡ countOf own (lit s font dark)
-  page-counted f after n P = P .tally ∙ page-count own (lit s font dark) tall wide positions count refl refl (pageDot s font dark) dots
 
 module _ (panel : Panel) (font : List ℕ) (dark : Bool) (frame : List ℕ) where
   -- the answer on paper: 10 for a panel that is not sound, then 9 for a size, and then 0 lit dots; otherwise no number, and those that are lit
@@ -81,11 +79,13 @@ module _ (panel : Panel) (font : List ℕ) (dark : Bool) (frame : List ℕ) wher
         (rw (u, eq-eqb (length font) fontSize f, ne-eqb (length frame) (glassOf panel .size) g))
 
     pub paints-lines : length frame ≡ glassOf panel .size → (blank after : List ℕ) (n : ℕ) → blank ≡ replicate (glassOf panel .size) 0
-        → PutsPage (panel .sheet) font dark blank after n → Paints panel font dark frame (Lit n) after
-    paints-lines g blank after n e P =
+        → after ≡ pagePut (panel .sheet) font dark blank → n ≡ onesOf after → Paints panel font dark frame (Lit n) after
+    paints-lines g blank after n e P counted =
+        let painted = page-painted (panel .sheet) font dark blank after e P in
         paints (Lit n) after
-        (rw (u, eq-eqb (length font) fontSize f, eq-eqb (length frame) (glassOf panel .size) g) (ap Lit (page-counted (panel .sheet) font dark blank after n P)))
-        (rw (u, eq-eqb (length font) fontSize f, eq-eqb (length frame) (glassOf panel .size) g) (page-painted (panel .sheet) font dark blank after n e P))
+        (rw (u, eq-eqb (length font) fontSize f, eq-eqb (length frame) (glassOf panel .size) g)
+        (ap Lit (counted ∙ ap onesOf painted ∙ ones-frame (glassOf panel) (lit (panel .sheet) font dark))))
+        (rw (u, eq-eqb (length font) fontSize f, eq-eqb (length frame) (glassOf panel .size) g) painted)
 
   -- whatever holds of the two refusals, with the frame as it was, and of the painting, holds
   pub painting-is : (P : Painted → List ℕ → Type 0) → P Unsound frame → P Size frame

@@ -1,5 +1,5 @@
 -- The rows that a position of a line shows, way by way, and that their dots are the lit ones.
-use Prim.Native.Nat.{ℕ, suc, zero, _+_, _-_, _*_, _/_, _%_, _≤_, _<_}
+use Prim.Native.Nat.{ℕ, suc, zero, _+_, _-_, _*_, _/_, _%_, _<_}
 use mathlib.Core.Path.{_≡_, refl, sym, ap, ap₂, _∙_}
 use mathlib.Core.Bool.{Bool, true, false, not, _&&_, _||_, and-false, or-true, or-false}
 use mathlib.Core.List.{List, []}
@@ -13,17 +13,15 @@ use lib.Seq.{getD-set-same, getD-set-other}
 use Rattle.laws.specs.Pick.{pick}
 use Rattle.laws.specs.Bit.{bit, one}
 use Rattle.laws.specs.laws.BitLaws.{bit-lt, one-bit, bit-of-zero}
-use Rattle.dots.specs.Table.{sum, table}
-use Rattle.dots.specs.laws.TableLaws.{getD-table, length-table, sum-le}
+use Rattle.dots.specs.Table.{table}
+use Rattle.dots.specs.laws.TableLaws.{getD-table, length-table}
 use Rattle.dots.specs.laws.PartsLaws.{part-back, place-back}
-use Rattle.dots.specs.engine.Cells.{blockSum, lineSum}
-use Rattle.chip.specs.Sizes.{positions}
 use Rattle.chip.specs.Address.{pattern, readPattern}
 use Rattle.chip.specs.declared.sheet.Sheet.{Sheet}
 use Rattle.picture.specs.Pattern.{tall, wide, patterns, fontStart, patternRow, glyphRow, patternOf, patternsOf, glyphOf, shapeOf}
 use Rattle.picture.specs.Cursor.{cursorHere}
 use Rattle.picture.specs.Picture.{codeAt, shapeAt, cursorRow, lit}
-use Rattle.picture.specs.engine.Shown.{full, rowDot, cellDot, pageDot, shapeFrom, shownOf}
+use Rattle.picture.specs.engine.Shown.{full, pageDot, shapeFrom, shownOf}
 
 -- the panel's own four patterns give what pattern memory does
 pub shape-from : (s : Sheet) (font : List ℕ) (l p : ℕ) (own : List (List ℕ)) (code : ℕ) (rows : List ℕ)
@@ -63,20 +61,6 @@ module _ (s : Sheet) (font : List ℕ) (dark : Bool) (l p : ℕ) where
       → shapeAt s font l p ≡ shownOf s font dark l p
   unfolding shownOf
   shown-bare d h b u = rw (d, h, b, u)
-
--- a row has no more lit dots than dots, a cell no more than its rows have, a line no more than its cells
-few-dot : (row c : ℕ) → rowDot row c ≤ 1
-few-dot row c = omega arith
-
-pub few-row : (rows : List ℕ) (i : ℕ) → sum (cellDot rows i) wide ≤ wide
-few-row rows i = sum-le (cellDot rows i) 1 wide (few-dot (getD rows i 0))
-
-pub few-cell : (rows : List ℕ) → blockSum tall wide (cellDot rows) ≤ tall * wide
-few-cell rows = sum-le (λ i. sum (cellDot rows i) wide) wide tall (few-row rows)
-
-pub few-line : (s : Sheet) (font : List ℕ) (dark : Bool) (l : ℕ) → lineSum tall wide positions (pageDot s font dark l) ≤ positions * (tall * wide)
-few-line s font dark l =
-    sum-le (λ p. blockSum tall wide (pageDot s font dark l p)) (tall * wide) positions (λ p. few-cell (shownOf s font dark l p))
 
 all-five : (j : ℕ) → j < wide → bit full j ≡ 1
 all-five zero h = refl

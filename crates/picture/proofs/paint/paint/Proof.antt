@@ -36,18 +36,22 @@ clear-requires c κs = c .before .if3 .left ∙ c .before .before .frame-size .e
 put-lines-requires : tie.Need-put-lines-requires
 put-lines-requires c κs = search needs
 
+ones-requires : tie.Need-ones-requires
+ones-requires c κs = search needs
+
 same-length : tie.Need-same-length
 same-length c = search needs
 
 returns-4 : tie.Need-returns-4
 returns-4 c =
-    let cleared = c .before .before .before .before .before .before in
+    let put = c .before .before .before .before in
+    let cleared = put .before .before .before .before in
     let sized = cleared .before .before in
     let tests = sized .before .before .before in
     let a = tests .before .before .before .before .before .args in
     paints-lines (a .panel) (now (a .font)) (a .dark) (now (a .frame))
     (sym (ap not (tests .before .before .sound .ensures)) ∙ tests .before .if1 .left) (tests .if2 .left) (sized .if3 .left ∙ sized .before .frame-size .ensures .is)
-    _ _ _ (cleared .clear .ensures) (c .before .before .put-lines .ensures)
+    _ _ _ (cleared .clear .ensures) (put .put-lines .ensures) (c .ones .ensures)
 
 pub paint-spec : {M : Type 1} → statement M
 paint-spec =
@@ -60,5 +64,6 @@ paint-spec =
     returns-3
     clear-requires
     put-lines-requires
+    ones-requires
     same-length
     returns-4)

@@ -1,34 +1,22 @@
-use borrow.Author.Needs.{needs}
--- After some lines the frame is as many steps on, and `lit` what they lit added up.
-use Prim.Native.Nat.{ℕ, _*_, _-_}
+-- After some lines the frame is as many steps on.
+use Prim.Native.Nat.{_-_}
 use mathlib.Core.Path.{_≡_, _∙_}
-use mathlib.Core.Bool.{Bool}
-use mathlib.Core.List.{List}
 use native.Mathlib.Omega.{arith}
-use denote.Ref.{now}
-use Rattle.dots.specs.engine.Cells.{line, lineSum}
-use Rattle.dots.specs.laws.TallyLaws.{Through, through-start, through-next, through-end, through-long, through-few, length-line}
+use borrow.Author.Needs.{needs}
+use Rattle.dots.specs.laws.ThroughLaws.{Through, through-start, through-next, through-end, through-long, length-line}
 use Rattle.chip.specs.Sizes.{linesOf, positions}
 use Rattle.chip.specs.laws.SizesLaws.{lines-few}
-use Rattle.chip.specs.declared.sheet.Sheet.{Sheet}
 use Rattle.picture.specs.Pattern.{tall, wide, patternsOf}
 use Rattle.picture.specs.Frame.{glass}
-use Rattle.picture.specs.engine.Shown.{pageDot}
-use Rattle.picture.specs.laws.ShownLaws.{few-line}
+use Rattle.picture.specs.engine.Shown.{linePut}
 use Rattle.picture.proofs.paint.put_lines.Statement.{statement}
 use Rattle.picture.proofs.paint.put_lines.Tie as tie
 
-abbrev step : Sheet → List ℕ → Bool → ℕ → List ℕ → List ℕ
-step sheet font dark l = line (glass (sheet .registers .chip)) tall wide positions (pageDot sheet font dark l) (l * tall)
-
-abbrev value : Sheet → List ℕ → Bool → ℕ → ℕ
-value sheet font dark l = lineSum tall wide positions (pageDot sheet font dark l)
-
 abbrev Inv-loop : tie.InvT-loop
-Inv-loop frame₀ sheet font dark own count lit₀ line₀ frame lit line = Through (step sheet font dark) (value sheet font dark) (linesOf (sheet .registers .chip)) frame₀ frame lit line × (own ≡ patternsOf (sheet .pattern)) × (count ≡ linesOf (sheet .registers .chip))
+Inv-loop frame₀ sheet font dark own count line₀ frame line = Through (linePut sheet font dark) (linesOf (sheet .registers .chip)) frame₀ frame line × (own ≡ patternsOf (sheet .pattern)) × (count ≡ linesOf (sheet .registers .chip))
 
 abbrev μ-loop : tie.MeasureT-loop
-μ-loop frame₀ sheet font dark own count lit₀ line₀ frame lit line = linesOf (sheet .registers .chip) - line
+μ-loop frame₀ sheet font dark own count line₀ frame line = linesOf (sheet .registers .chip) - line
 
 patterns-requires : tie.Need-patterns-requires Inv-loop μ-loop
 patterns-requires c κs = search needs
@@ -37,24 +25,13 @@ lines-requires : tie.Need-lines-requires Inv-loop μ-loop
 lines-requires c κs = search needs
 
 loop-holds : tie.Need-loop-holds Inv-loop μ-loop
-loop-holds c = (through-start _ _ _ _, c .before .patterns .ensures, c .lines .ensures)
+loop-holds c = (through-start _ _ _, c .before .patterns .ensures, c .lines .ensures)
 
 put-line-requires : tie.Need-put-line-requires Inv-loop μ-loop
 put-line-requires c κs =
     let l = c .before .before .loop in
     let b = c .before .before .before .before .before .before .before .before in
-    (through-long _ _ _ _ (λ l f. length-line (glass (b .args .sheet .registers .chip)) tall wide positions _ _ f) _ _ _ (l .inv .0) ∙ b .pre .0, l .inv .1, b .pre .1, omega (arith, l .inv .2))
-
-add-lit : tie.Need-add-lit Inv-loop μ-loop
-add-lit c =
-    let a = c .before .before .before .before .before .before .before .before .before .before .before .args in
-    let l = c .before .before .before .before .before .loop in
-    omega (
-      arith,
-      lines-few (a .sheet .registers .chip),
-      through-few _ _ _ _ (positions * (tall * wide)) (few-line (a .sheet) (now (a .font)) (a .dark)) _ _ _
-          (through-next _ _ _ _ _ _ _ _ _ (l .inv .0) (omega (arith, l .inv .2)) (c .before .before .put-line .ensures)),
-    )
+    (through-long _ _ _ (λ l f. length-line (glass (b .args .sheet .registers .chip)) tall wide positions _ _ f) _ _ (l .inv .0) ∙ b .pre .0, l .inv .1, b .pre .1, omega (arith, l .inv .2))
 
 add-line : tie.Need-add-line Inv-loop μ-loop
 add-line c = omega (arith, lines-few (c .before .before .before .before .before .before .before .before .before .before .before .args .sheet .registers .chip), c .before .before .before .before .before .loop .inv .2)
@@ -65,13 +42,13 @@ loop-less c = omega (arith, c .before .before .before .before .before .loop .inv
 loop-again : tie.Need-loop-again Inv-loop μ-loop
 loop-again c =
     let l = c .before .before .before .before .before .loop in
-    (through-next _ _ _ _ _ _ _ _ _ (l .inv .0) (omega (arith, l .inv .2)) (c .before .before .put-line .ensures), l .inv .1, l .inv .2)
+    (through-next _ _ _ _ _ _ (l .inv .0) (omega (arith, l .inv .2)) (c .before .before .put-line .ensures), l .inv .1, l .inv .2)
 
 same-length : tie.Need-same-length Inv-loop μ-loop
-same-length c = through-long _ _ _ _ (λ l f. length-line (glass (c .before .before .before .before .before .before .before .args .sheet .registers .chip)) tall wide positions _ _ f) _ _ _ (c .before .loop .inv .0)
+same-length c = through-long _ _ _ (λ l f. length-line (glass (c .before .before .before .before .before .before .before .args .sheet .registers .chip)) tall wide positions _ _ f) _ _ (c .before .loop .inv .0)
 
 returns : tie.Need-returns Inv-loop μ-loop
-returns c = through-end _ _ _ _ _ _ _ (c .before .loop .inv .0) (omega (arith, c .before .loop .inv .2))
+returns c = through-end _ _ _ _ _ (c .before .loop .inv .0) (omega (arith, c .before .loop .inv .2))
 
 pub put-lines-spec : {M : Type 1} → statement M
 put-lines-spec =
@@ -83,7 +60,6 @@ put-lines-spec =
     lines-requires
     loop-holds
     put-line-requires
-    add-lit
     add-line
     loop-less
     loop-again
