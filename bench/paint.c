@@ -32,7 +32,7 @@ __attribute__((noinline)) static void put_line(const panel *restrict p, uint8_t 
     }
 }
 
-// The ones of the frame's bytes: the fastest of five ways to count (docs/DECISIONS.md, "Speed").
+// The ones of each byte of the frame, added up: the fastest of five ways to count them (docs/DECISIONS.md, "Speed").
 static int count(int size) {
     uint16_t lit = 0;
     for (int i = 0; i < size; i++) {
