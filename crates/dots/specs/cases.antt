@@ -1,1 +1,2 @@
 pub mod OnesCases
+pub mod TurnedCases

@@ -7,3 +7,4 @@ pub mod CellsLaws
 pub mod FirstLaws
 pub mod ThroughLaws
 pub mod OnesLaws
+pub mod TurnedLaws

@@ -14,7 +14,7 @@ use Rattle.dots.specs.Landing.{Landing, dotsFrame, countOf}
 use Rattle.dots.specs.engine.Ones.{onesOf}
 use Rattle.dots.specs.laws.OnesLaws.{ones-frame}
 
-abbrev padded : Landing
+abbrev pub padded : Landing
 padded = record {
   rows = 3;
   cols = 2;
@@ -36,7 +36,7 @@ padded = record {
 }
 
 -- the dots (0, 0), (2, 0) and (1, 1)
-abbrev three : ℕ → ℕ → Bool
+abbrev pub three : ℕ → ℕ → Bool
 three r x = eqb x 0 && (eqb r 0 || eqb r 2) || eqb x 1 && eqb r 1
 
 three-frame : dotsFrame padded three ≡ 0x05 ∷ 0x02 ∷ []
