@@ -1,5 +1,5 @@
 #!/usr/bin/env python3
-"""Writes night.log and two-lines.log: a night each of two gateway boxes' display buses, as the tap logs them.
+"""Writes night.log, two-lines.log and mirrored.log: a night each of three gateway boxes' display buses, as the tap logs them.
 
 Times are microseconds from midnight. A box starts up, then shows a line for each wave report: Clear, wait for the chip by
 reading its status, sixteen characters. At 03:12 it does not wait: the line falls on a chip that is still clearing and is
@@ -7,6 +7,8 @@ ignored, and the box writes it again.
 
 The box of two-lines.log has the NJU6635, which is faster, and shows the wave on the first line and the wind on the second,
 each after an address set. In its night it is the second line that falls on a busy chip, at 02:57, its address set too.
+
+The box of mirrored.log is of the same kind, with its chip mounted upside down, so that it uses pin configuration mode B.
 """
 import pathlib
 import struct
@@ -128,5 +130,14 @@ def two_lines():
     box.save("two-lines.log")
 
 
+def mirrored():
+    box = Box(0x33, 316, 28)  # as that of two_lines, in mode B
+    box.start_up(at(0, 0, 1))
+    box.show_both(at(0, 12), "BUOY 52  H 1.4 m", "WIND N   7.7 m/s")
+    box.show_both(at(1, 30), "BUOY 53  H 1.6 m", "WIND NE 10.3 m/s")
+    box.save("mirrored.log")
+
+
 one_line()
 two_lines()
+mirrored()

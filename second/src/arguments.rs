@@ -91,7 +91,7 @@ pub fn trace(words: &[String]) -> Result<Lent, &'static str> {
 /// Reads the words of `wall`. No font of its own stands here in for one that
 /// is not given.
 pub fn wall(words: &[String]) -> Result<Asked, &'static str> {
-    let (mut ascii, mut pbm, mut dark) = (None, None, None);
+    let (mut ascii, mut pbm, mut dark, mut upright) = (None, None, None, None);
     let (mut at, mut font, mut fresh) = (None, None, Fresh::default());
     let mut rest = words.iter();
     while let Some(word) = rest.next() {
@@ -99,6 +99,7 @@ pub fn wall(words: &[String]) -> Result<Asked, &'static str> {
             "ascii" => once(&mut ascii, ())?,
             "pbm" => once(&mut pbm, ())?,
             "dark" => once(&mut dark, ())?,
+            "upright" => once(&mut upright, ())?,
             "at" => once(&mut at, number(rest.next(), LATEST)?)?,
             "font" => once(&mut font, font_of_full_size(rest.next())?)?,
             word => fresh.read(word, &mut rest)?,
@@ -110,7 +111,7 @@ pub fn wall(words: &[String]) -> Result<Asked, &'static str> {
         (None, Some(())) => Form::Bitmap,
         (Some(()), Some(())) => return Err("ascii and pbm"),
     };
-    Ok(Asked { form, dark: dark.is_some(), at, font, start: fresh.panel() })
+    Ok(Asked { form, dark: dark.is_some(), upright: upright.is_some(), at, font, start: fresh.panel() })
 }
 
 fn once<T>(place: &mut Option<T>, value: T) -> Result<(), &'static str> {
@@ -181,7 +182,7 @@ mod tests {
         assert_eq!((lent.font[0], lent.font[8], lent.font[1_919]), (5, 56, 165));
         assert_eq!(lent.font[127..137], [5, 224, 224, 224, 224, 224, 224, 224, 224, 104]);
         let asked = wall(&[]).expect("no words");
-        assert_eq!(asked, Asked { form: Form::HalfBlocks, dark: false, at: None, font: None, start: usual(31) });
+        assert_eq!(asked, Asked::plainly(Form::HalfBlocks, usual(31)));
         assert_eq!(start(&[]), Ok(usual(31)));
     }
 
@@ -190,8 +191,24 @@ mod tests {
         let lent = trace(&split("records frame 0 times 1 2 65535")).ok().expect("words of trace");
         assert_eq!((lent.panel.times.long, lent.panel.times.short, lent.frame_size), (2, 65_535, 0));
         let asked = wall(&split("at 281474976710656 dark pbm")).expect("words of wall");
-        let expected = Asked { form: Form::Bitmap, dark: true, at: Some(1 << 48), font: None, start: usual(31) };
+        let expected = Asked { dark: true, at: Some(1 << 48), ..Asked::plainly(Form::Bitmap, usual(31)) };
         assert_eq!(asked, expected);
+    }
+
+    #[test]
+    fn upright_stands_anywhere() {
+        let upright = |form, chip| Asked { upright: true, ..Asked::plainly(form, usual(chip)) };
+        assert_eq!(wall(&split("upright")), Ok(upright(Form::HalfBlocks, 31)));
+        assert_eq!(wall(&split("upright ascii chip 6635")), Ok(upright(Form::Ascii, 35)));
+        assert_eq!(wall(&split("times 10000 1640 40 pbm upright")), Ok(upright(Form::Bitmap, 31)));
+        assert_eq!(start(&split("upright")), Err("unknown word"), "it is a word of the wall alone");
+        let all = Asked { dark: true, at: Some(7), ..upright(Form::Ascii, 35) };
+        for words in [
+            "upright dark ascii at 7 chip 6635", "ascii upright chip 6635 dark at 7",
+            "chip 6635 at 7 dark ascii upright", "at 7 upright times 10000 1640 40 chip 6635 dark ascii",
+        ] {
+            assert_eq!(wall(&split(words)), Ok(all.clone()), "{words}");
+        }
     }
 
     #[test]
@@ -271,9 +288,9 @@ mod tests {
     #[test]
     fn refusals_of_trace() {
         for (words, reason) in [
-            ("ascii", "unknown word"), ("records records", "group given twice"), ("frame 201", "number too large"),
-            ("frame +1", "not a number"), ("frame ", "not a number"), ("font", "file missing"),
-            ("Records", "unknown word"),
+            ("ascii", "unknown word"), ("upright", "unknown word"), ("records records", "group given twice"),
+            ("frame 201", "number too large"), ("frame +1", "not a number"), ("frame ", "not a number"),
+            ("font", "file missing"), ("Records", "unknown word"),
         ] {
             assert_eq!(trace(&split(words)).err(), Some(reason), "{words}");
         }
@@ -285,6 +302,9 @@ mod tests {
             ("records", "unknown word"), ("ascii dark ascii", "group given twice"), ("at", "number missing"),
             ("at 281474976710657", "number too large"), ("at 18446744073709551616", "number too large"),
             ("at -1", "not a number"), ("pbm dark ascii", "ascii and pbm"), ("font", "file missing"),
+            ("upright upright", "group given twice"), ("upright pbm dark upright", "group given twice"),
+            ("Upright", "unknown word"), ("upright 1", "unknown word"), ("at upright", "not a number"),
+            ("upright ascii pbm", "ascii and pbm"),
         ] {
             assert_eq!(wall(&split(words)).err(), Some(reason), "{words}");
         }

@@ -1,7 +1,8 @@
 //! The rules' own cases A to M, the examples of the report and of the wall, the
 //! sample night, and the four-record example; those of two lines, of the read after
-//! a write and of the written places by themselves.
+//! a write, of the written places and of mirrored glass by themselves.
 
+mod mirrored;
 mod reads;
 mod two_lines;
 mod written;
@@ -64,6 +65,7 @@ pub fn all() -> Vec<Case> {
     let mut all = two_lines::all();
     all.extend(reads::all());
     all.extend(written::all());
+    all.extend(mirrored::all());
     all.extend(busy_and_halves());
     all.extend(steps());
     all.extend(reports());
@@ -159,8 +161,7 @@ fn pictures_and_prints() -> Vec<Case> {
             run.counts == [0; 9] && !run.cut && *panel == fresh(Chip::ONE_LINE)
         }),
         case("the wall's example", at_times(&[(0, INSTRUCTION, 0x0E), (40, DATA, 0x57)]), |_, _, log| {
-            let asked =
-                Asked { form: Form::Ascii, dark: false, at: None, font: None, start: fresh(Chip::ONE_LINE) };
+            let asked = Asked::plainly(Form::Ascii, fresh(Chip::ONE_LINE));
             wall::print(&asked, &wall_font(), log) == WALL_EXAMPLE.as_bytes()
         }),
         case("four records, glazomir", four.clone(), |_, _, log| {

@@ -84,7 +84,8 @@ pub struct Sheet {
     pub c: bool,
     pub b: bool,
     pub width: Width,
-    /// The low four Function Set bits, kept as written.
+    /// The low four Function Set bits, kept as written. Bit 0 says where the dots of
+    /// the picture land, and no step looks at any of them.
     pub function: u8,
     /// Whether the next data read is good.
     pub good: bool,

@@ -3,6 +3,7 @@
 //! that are refused, and panels of no known chip.
 
 mod lines;
+mod mirrored;
 mod reads;
 mod report;
 mod wall;
@@ -10,6 +11,7 @@ mod written;
 
 use crate::chips::Chip;
 pub use lines::UNKNOWN_CHIPS;
+pub use mirrored::UPRIGHT_TWICE;
 pub use reads::{BY_RECORDS, FRESH_START, FROM_FRESH, HANDED_IN, IN_PIECES};
 
 /// What the classes of a program begin with; those of `trace` begin with
@@ -148,8 +150,10 @@ pub fn of_chip(chip: Chip) -> Vec<String> {
     all.extend(lines::of_chip(chip));
     all.extend(reads::of_every_chip());
     all.extend(written::of_chip(chip));
+    all.extend(mirrored::of_chip(chip));
     all.extend(prefixed(REPORT, &report::of_every_chip()));
     all.extend(prefixed(WALL, &wall::of_chip(chip)));
+    all.extend(prefixed(WALL, &mirrored::of_wall(chip)));
     all.extend(prefixed(GLAZOMIR, &lines::of_glazomir(chip)));
     for program in ["", GLAZOMIR, REPORT, WALL] {
         all.extend(prefixed(program, &lines::given(chip)));
@@ -162,6 +166,7 @@ pub fn of_no_chip() -> Vec<String> {
     let mut all = lines::of_unknown_chips();
     all.extend(REFUSED.map(|reason| format!("refused: {reason}")));
     all.extend(wall::refused().map(|reason| format!("{WALL}refused: {reason}")));
+    all.push(format!("{WALL}{UPRIGHT_TWICE}"));
     for program in ["", GLAZOMIR, REPORT, WALL] {
         all.extend(REFUSED_OF_ALL.map(|reason| format!("{program}refused: {reason}")));
     }

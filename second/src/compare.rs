@@ -11,9 +11,12 @@ use crate::observe;
 use crate::observe_report;
 use crate::observe_wall;
 use crate::observe_words;
+use crate::panel;
 use crate::questions::{self, Question, Which};
 use crate::reach::Reach;
 use crate::start;
+use crate::turned;
+use crate::wall::Asked;
 use std::path::Path;
 use std::sync::atomic::{AtomicBool, AtomicU64, Ordering::SeqCst};
 use std::sync::Mutex;
@@ -52,6 +55,8 @@ impl Programs {
 pub enum Finding {
     Difference(Question),
     Demand(Trial, &'static str),
+    /// The picture's two modes are not each other's turn.
+    Turn(Trial, &'static str),
     /// The comparison itself could not be made.
     Trouble(String),
 }
@@ -158,7 +163,8 @@ fn judge(programs: &Programs, tally: &Tally, question: &Question, directory: &Pa
     }
 }
 
-/// Notes what a question reaches, and checks demand 3 from a fresh panel.
+/// Notes what a question reaches, and checks demand 3 from a fresh panel and what the
+/// two modes have to do with each other.
 pub fn model_alone(question: &Question, words: &[String], tally: &Tally, reach: &mut Reach) {
     if question.feed.fails() {
         return;
@@ -174,13 +180,20 @@ pub fn model_alone(question: &Question, words: &[String], tally: &Tally, reach: 
         }
         Which::Wall => {
             tally.walled.fetch_add(1, SeqCst);
-            observe_wall::question(reach, question, arguments::wall(words));
+            let asked = arguments::wall(words);
+            if let Ok(asked @ Asked { font: Some(font), .. }) = &asked {
+                both_modes(&question.trial, turned::check_prints(asked, font, &question.trial.log), tally);
+            }
+            observe_wall::question(reach, question, asked);
         }
         Which::Trace => {
             let lent = arguments::trace(words);
             observe::question(reach, question, lent.as_ref().map_err(|reason| *reason));
             if let Ok(lent) = lent {
                 demand_three(&question.trial, &lent, tally);
+                let mut panel = lent.panel.clone();
+                panel::run(&mut panel, &question.trial.log);
+                both_modes(&question.trial, turned::check_paintings(&panel, &lent.font), tally);
             }
         }
     }
@@ -194,6 +207,13 @@ fn demand_three(trial: &Trial, lent: &Lent, tally: &Tally) {
     tally.demands.fetch_add(1, SeqCst);
     if let Err(reason) = demands::check(chip, times, &trial.log) {
         tally.report(Finding::Demand(trial.clone(), reason));
+    }
+}
+
+/// Reports what is wrong between the two modes, if anything is.
+fn both_modes(trial: &Trial, checked: Result<(), &'static str>, tally: &Tally) {
+    if let Err(reason) = checked {
+        tally.report(Finding::Turn(trial.clone(), reason));
     }
 }
 

@@ -20,6 +20,10 @@ pub fn print(programs: &Programs, tally: &Tally, directory: &Path) -> u64 {
         match first {
             Finding::Trouble(trouble) => println!("{trouble}"),
             Finding::Demand(trial, reason) => print_demand(trial, reason, &directory),
+            Finding::Turn(trial, reason) => {
+                println!("the model's two modes disagree: {reason}");
+                print_trial(trial);
+            }
             Finding::Difference(question) => print_difference(programs, question, &directory),
         }
     }

@@ -1,8 +1,10 @@
 //! Trials for `wall`: a log that sets the glass on purpose, a font of random
 //! bytes, so that a turned or mirrored glyph shows, and often a time to look at.
 
+mod mirrored;
 mod written;
 
+pub use mirrored::turned_by_time;
 pub use written::places_by_time;
 
 use crate::cases;
@@ -31,6 +33,7 @@ fn scene(random: &mut Random, number: u64) -> Scene {
         screen: SCREENS[(number / 16 % 8) as usize],
         first_code: (number / 2 * 16) as u8,
         cursor: random.pick(&[0x40, 0x80]) | random.byte() & 0x1F,
+        function: random.pick(&[0x0, 0x1, 0x1, 0x1, 0x2, 0x9, 0xF, 0xC]),
     }
 }
 
@@ -155,9 +158,9 @@ pub fn refused(seed: u64) -> Vec<Trial> {
     let log = generator::short_night();
     let font = files("font", vec![random.bytes(FONT_SIZE)]);
     let wordings = [
-        "bogus", "ascii pbm", "pbm dark ascii", "ascii ascii", "dark pbm dark", "at", "at 1 at 1", "at -1", "at x",
-        "at 0x10", "at 281474976710657", "at 18446744073709551616", "ascii at dark", "--help", "records", "Ascii",
-        "frame 80",
+        "bogus", "ascii pbm", "pbm dark ascii", "ascii ascii", "dark pbm dark", "upright upright",
+        "upright pbm dark upright", "Upright", "at upright", "at", "at 1 at 1", "at -1", "at x", "at 0x10",
+        "at 281474976710657", "at 18446744073709551616", "ascii at dark", "--help", "records", "Ascii", "frame 80",
     ];
     let mut trials: Vec<Trial> =
         wordings.map(|words| Trial { groups: vec![text(words), font.clone()], log: log.clone() }).into();
@@ -177,11 +180,15 @@ fn asked(random: &mut Random, groups: Vec<Group>, at: Option<u64>, log: Vec<u8>)
     Trial { groups: words(random, groups, form, at), log }
 }
 
-/// The words, in any order, with a font of random bytes; half of them dark.
+/// The words, in any order, with a font of random bytes; half of them dark, and a
+/// third upright.
 fn words(random: &mut Random, mut groups: Vec<Group>, form: &str, at: Option<u64>) -> Vec<Group> {
     groups.extend([text(form), files("font", vec![random.bytes(FONT_SIZE)])]);
     if random.flag() {
         groups.push(text("dark"));
+    }
+    if random.chance(33) {
+        groups.push(text("upright"));
     }
     groups.extend(at.map(|time| text(&format!("at {time}"))));
     let first = random.below(groups.len() as u64) as usize;

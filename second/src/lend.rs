@@ -4,6 +4,7 @@
 //! Where there are many sorts, they go by turn instead of by chance, so that
 //! none is left out.
 
+pub mod mirrored;
 pub mod panels;
 pub mod written;
 

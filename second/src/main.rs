@@ -2,7 +2,8 @@
 //! and the comparison of the model with the built programs.
 //!
 //! The model: `log`, `chips`, `chip`, `written`, `panel`, `picture`, `prints`,
-//! `demands`, with `panel_file` and `arguments` for what a run is lent, and `cases`.
+//! `demands`, with `panel_file` and `arguments` for what a run is lent, and `cases`;
+//! `turned` says what the picture's two modes have to do with each other.
 //! The report: `report`, and `again` for what was written again. The glass: `wall`.
 //! The trials: `random`, `lend`, `sender`, `generator`, and `glass` for `wall`.
 //! The comparison: `questions`, `expected`, `start`, `compare`, `shrink`,
@@ -29,10 +30,12 @@ mod observe;
 mod observe_bits;
 mod observe_lent;
 mod observe_lines;
+mod observe_mirrored;
 mod observe_reads;
 mod observe_report;
 mod observe_unknown;
 mod observe_wall;
+mod observe_wall_mirrored;
 mod observe_wall_places;
 mod observe_words;
 mod observe_written;
@@ -47,6 +50,7 @@ mod report;
 mod sender;
 mod shrink;
 mod start;
+mod turned;
 mod wall;
 mod written;
 
@@ -62,7 +66,8 @@ second: a model of the mirror, and its comparison with the built programs
   second report [WORDS] < LOG    print what report should print
   second wall [WORDS] < LOG      print what wall should print; `font FILE` must
                                  be among the words, and without `ascii` or
-                                 `pbm` there is no drawing
+                                 `pbm` there is no drawing; `upright` draws
+                                 mirrored glass as it would be in mode A
   second cases                   check the cases of both chips and the pages'
                                  examples
   second reach [--logs N] [--seed S]
@@ -79,11 +84,12 @@ second: a model of the mirror, and its comparison with the built programs
 WORDS are the program's own, `chip 6635` and `times R L S` among them. CMD is a
 command line, split at spaces, that starts a program. N is 3000 logs and S is 1
 unless given; soak takes its seed from the clock. About half of the logs are for
-two lines. Every log goes through trace, every eighth through glazomir, every
-eleventh through the report with nights of a box in haste beside them; the wall
-has logs of its own, one to five. A difference is shrunk to a short log and
-printed, and so is a class that no log of a chip reached (which a small N brings
-about); the status is then 1. The last line is `N passed, N failed`.
+two lines, and many end on mirrored glass. Every log goes through trace, every
+eighth through glazomir, every eleventh through the report with nights of a box
+in haste beside them; the wall has logs of its own, one to five. A difference is
+shrunk to a short log and printed, and so is a class that no log of a chip
+reached (which a small N brings about); the status is then 1. The last line is
+`N passed, N failed`.
 ";
 
 fn main() -> ExitCode {

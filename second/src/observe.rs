@@ -7,6 +7,7 @@ use crate::chip::{Counter, Sheet, Width};
 use crate::log::{self, Message, Transfer, TIME_LIMIT};
 use crate::observe_lent;
 use crate::observe_lines;
+use crate::observe_mirrored::Turns;
 use crate::observe_reads::{self, Trail};
 use crate::observe_written::Places;
 use crate::panel::number::*;
@@ -35,6 +36,8 @@ struct Memory {
     trail: Trail,
     /// What became of each place's bit.
     places: Places,
+    /// What turned the glass.
+    turns: Turns,
 }
 
 impl Memory {
@@ -46,7 +49,8 @@ impl Memory {
             latest: None,
             wrong_wait: 0,
             trail: Trail::new(if is_handed_in { HANDED_IN } else { FRESH_START }, ways.clone()),
-            places: Places::new(is_handed_in, ways),
+            places: Places::new(is_handed_in, ways.clone()),
+            turns: Turns::new(is_handed_in, ways),
         }
     }
 }
@@ -70,7 +74,7 @@ pub fn question(reach: &mut Reach, question: &Question, lent: Result<&Lent, &str
         memory.places.end(reach, lent, &panel);
         let is_untouched = lent.panel.is_fresh() && log.is_empty();
         reach.note_if(is_untouched && panel.sheet.written.number() == 0, "no place of a fresh panel is written");
-        observe_lent::painting(reach, lent, &panel);
+        observe_lent::painting(reach, lent, &panel, &memory.turns);
         observe_reads::end(reach, &panel);
     }
 }
@@ -99,6 +103,7 @@ fn run(reach: &mut Reach, start: &Panel, log: &[u8], memory: &mut Memory) -> Pan
         let step = Step { before: &before, record, answer, after: &panel };
         reach.note(&format!("answer {}", answer.number));
         memory.places.record(&step, log::message(record));
+        memory.turns.record(&step, log::message(record));
         match log::message(record) {
             None => {
                 bad(reach, &step);

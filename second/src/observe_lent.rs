@@ -7,6 +7,7 @@ use crate::generator::Trial;
 use crate::log::{self, TIME_LIMIT};
 use crate::observe_bits;
 use crate::observe_lines;
+use crate::observe_mirrored::{self, Turns};
 use crate::observe_unknown;
 use crate::observe_words;
 use crate::panel::{self, Panel, BUSY_END_LIMIT};
@@ -37,6 +38,8 @@ pub fn lent(reach: &mut Reach, trial: &Trial, lent: &Lent) {
     reach.note_if(faults.len() > 1, "unsound in two ways");
     if !faults.is_empty() {
         refusals(reach, lent, &trial.log);
+        observe_mirrored::unsound(reach, &lent.panel.sheet, &faults);
+        observe_mirrored::lent_frames(reach, lent, &lent.panel.sheet);
     }
 }
 
@@ -87,15 +90,23 @@ fn refusals(reach: &mut Reach, lent: &Lent, log: &[u8]) {
 }
 
 /// Notes the picture of the panel that a sound run ends with.
-pub fn painting(reach: &mut Reach, lent: &Lent, panel: &Panel) {
+pub fn painting(reach: &mut Reach, lent: &Lent, panel: &Panel, turns: &Turns) {
     let sheet = &panel.sheet;
     let (size, fits) = (lent.frame_size, has_its_size(lent));
-    reach.note_if(!fits, "9 for the frame");
-    reach.note_if(!fits && matches!(size, 80 | 160), "9 for a frame of the other chip's size");
-    reach.note_if(lent.font.len() != FONT_SIZE, "9 for the font");
+    observe_mirrored::lent_frames(reach, lent, sheet);
+    for (is_refused, class) in [
+        (!fits, "9 for the frame"), (!fits && matches!(size, 80 | 160), "9 for a frame of the other chip's size"),
+        (lent.font.len() != FONT_SIZE, "9 for the font"),
+    ] {
+        if is_refused {
+            reach.note(class);
+            observe_mirrored::refused(reach, sheet, class);
+        }
+    }
     if !fits || lent.font.len() != FONT_SIZE {
         return reach.note("answer 9");
     }
+    observe_mirrored::painted(reach, turns, lent, panel);
     if !sheet.d {
         return reach.note("painted with D off");
     }

@@ -5,7 +5,7 @@ use crate::chip::{Counter, DisplayAddress, PatternAddress, Sheet};
 use crate::chips::{Chip, LINE};
 use crate::generator::Trial;
 use crate::panel::Panel;
-use crate::picture::{self, Comparison};
+use crate::picture::{self, Comparison, Mode};
 use crate::reach::Reach;
 
 fn is_written(line: &[u8]) -> bool {
@@ -133,8 +133,11 @@ pub fn painted(reach: &mut Reach, sheet: &Sheet, light: &[u8], dark: &[u8]) {
         reach.note("painted with both lines written");
         reach.note_if(sheet.shift != 0, "painted at a shift with both lines written");
     }
-    if let Comparison::At { row: 8.., .. } = picture::compare(sheet.chip, light, dark) {
-        reach.note("dark and light first differ on the second line");
+    // In mode B the second line has the upper rows.
+    let second_line = if Mode::of(sheet) == Mode::A { 8..16 } else { 0..8 };
+    if let Comparison::At { row, .. } = picture::compare(sheet.chip, light, dark) {
+        let is_second = sheet.chip.lines() == 2 && second_line.contains(&row);
+        reach.note_if(is_second, "dark and light first differ on the second line");
     }
 }
 

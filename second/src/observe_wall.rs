@@ -6,6 +6,7 @@ use crate::chips::LINE;
 use crate::classes::WALL;
 use crate::glass::{self, Moment};
 use crate::log::{self, Message, TIME_LIMIT};
+use crate::observe_wall_mirrored;
 use crate::observe_wall_places;
 use crate::observe_words;
 use crate::panel::Panel;
@@ -20,13 +21,17 @@ pub fn question(reach: &mut Reach, question: &Question, asked: Result<Asked, &st
     let log = &question.trial.log;
     let asked = match asked {
         Ok(asked) => asked,
-        Err(reason) => return reach.note_by_itself(&format!("{WALL}refused: {reason}")),
+        Err(reason) => {
+            observe_wall_mirrored::refused(reach, &question.trial, reason);
+            return reach.note_by_itself(&format!("{WALL}refused: {reason}"));
+        }
     };
     reach.turn_to(asked.start.sheet.chip);
     observe_words::given(reach, WALL, &question.trial);
     let shown = wall::shown(&asked.start, log, asked.at);
     screen(reach, &asked, &shown.panel.sheet);
     observe_wall_places::written(reach, &asked, &shown, log);
+    observe_wall_mirrored::drawn(reach, &asked, &shown, log);
     ends(reach, &asked, &shown, log);
     if let Some(time) = asked.at {
         let moments = glass::moments(&asked.start, log);

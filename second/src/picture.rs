@@ -1,4 +1,8 @@
-//! The picture: which dots are lit, and where two frames differ.
+//! The picture: which dots are lit, where each lands, and where two frames differ.
+
+mod wiring;
+
+pub use wiring::{Mode, Wiring};
 
 use crate::chip::Sheet;
 use crate::chips::{Chip, LINE, LINE_ROWS};
@@ -42,10 +46,11 @@ pub fn paint(panel: &Panel, font: &[u8], dark: bool, frame: &mut [u8]) -> Painti
         return Painting::Refused(SIZE);
     }
     frame.fill(0);
+    let Wiring { rows, columns } = Wiring::of(&panel.sheet);
     let mut lit = 0;
-    for row in 0..chip.rows() {
-        for column in 0..COLUMNS {
-            if is_lit(&panel.sheet, font, dark, row, column) {
+    for (row, &own_row) in rows.iter().enumerate() {
+        for (column, &own_column) in columns.iter().enumerate() {
+            if is_lit(&panel.sheet, font, dark, own_row, own_column) {
                 frame[10 * row + column / 8] |= 1 << (7 - column % 8);
                 lit += 1;
             }
@@ -54,6 +59,7 @@ pub fn paint(panel: &Panel, font: &[u8], dark: bool, frame: &mut [u8]) -> Painti
     Painting::Lit(lit)
 }
 
+/// Of a dot by the panel's own row and column: the mode has no say in it.
 fn is_lit(sheet: &Sheet, font: &[u8], dark: bool, row: usize, column: usize) -> bool {
     if !sheet.d {
         return false;
@@ -87,8 +93,8 @@ pub fn cursor(sheet: &Sheet) -> Place {
     }
 }
 
-/// Compares two frames of this chip. A comparison sees no panel, so the chip
-/// is all that it can find unsound.
+/// Compares two frames of this chip as they lie. A comparison sees no panel, so the
+/// chip is all that it can find unsound, and it knows no mode.
 pub fn compare(chip: Chip, one: &[u8], other: &[u8]) -> Comparison {
     if !chip.is_known() {
         return Comparison::Refused(UNSOUND);
@@ -121,6 +127,8 @@ pub fn trial_font() -> Vec<u8> {
         .collect()
 }
 
+#[cfg(test)]
+mod mirrored;
 #[cfg(test)]
 mod two_lines;
 

@@ -1,6 +1,7 @@
 //! What the built programs are asked: questions that are always the same but
 //! for the seed, and those of each of the generator's turns.
 
+mod mirrored;
 mod written;
 
 use crate::cases;
@@ -60,6 +61,7 @@ pub fn fixed(seed: u64) -> Vec<Question> {
     questions.extend(panels());
     questions.extend(reads(seed));
     questions.extend(written::all(seed));
+    questions.extend(mirrored::all(seed));
     questions.extend(fresh_panels(seed));
     questions.extend(unreadable(seed));
     questions.extend(help());
@@ -179,6 +181,7 @@ fn of_the_wall(seed: u64) -> Vec<Question> {
     whole.extend(glass::doubtful_reads_by_time());
     whole.extend(Chip::KNOWN.into_iter().flat_map(|chip| glass::shifts(seed, chip)));
     whole.extend(Chip::KNOWN.into_iter().flat_map(glass::places_by_time));
+    whole.extend(Chip::KNOWN.into_iter().flat_map(glass::turned_by_time));
     questions.extend(whole.into_iter().map(|trial| ask(trial, Feed::Whole)));
     questions
 }

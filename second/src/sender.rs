@@ -5,12 +5,14 @@
 
 mod faults;
 mod glass;
+mod mirrored;
 mod nights;
 mod phrases;
 mod reads;
 mod written;
 
 pub use glass::{send_glass, Scene};
+pub use mirrored::send_turns;
 pub use nights::send_nights;
 pub use reads::send_codes_before_reads;
 pub use written::{send_around_the_ends, send_bytes, send_clears, send_what_leaves_the_bits, send_write};

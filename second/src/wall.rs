@@ -25,12 +25,21 @@ pub enum Form {
 pub struct Asked {
     pub form: Form,
     pub dark: bool,
+    /// The picture as it would be in mode A.
+    pub upright: bool,
     /// None for the end of the log.
     pub at: Option<u64>,
     /// None for the program's own.
     pub font: Option<Vec<u8>>,
     /// The fresh panel that the log is sent to.
     pub start: Panel,
+}
+
+impl Asked {
+    /// This form and nothing else: light, as it is wired, at the end of the log.
+    pub fn plainly(form: Form, start: Panel) -> Asked {
+        Asked { form, dark: false, upright: false, at: None, font: None, start }
+    }
 }
 
 /// The panel that is shown, and the record that it is the panel before.
@@ -58,13 +67,24 @@ pub fn shown(start: &Panel, log: &[u8], at: Option<u64>) -> Shown {
 /// The print but for the drawing in half blocks.
 pub fn print(asked: &Asked, font: &[u8], log: &[u8]) -> Vec<u8> {
     let panel = shown(&asked.start, log, asked.at).panel;
-    let mut frame = vec![0; panel.sheet.chip.frame_size()];
-    picture::paint(&panel, font, asked.dark, &mut frame);
+    let frame = frame(asked, font, &panel);
     match asked.form {
         Form::Bitmap => [format!("P4\n80 {}\n", panel.sheet.chip.rows()).as_bytes(), &frame].concat(),
         Form::Ascii => (drawing(&frame) + &lines(&panel.sheet)).into_bytes(),
         Form::HalfBlocks => lines(&panel.sheet).into_bytes(),
     }
+}
+
+/// The frame that is drawn of this panel; the lines beneath are the panel's own,
+/// upright or not.
+pub fn frame(asked: &Asked, font: &[u8], panel: &Panel) -> Vec<u8> {
+    let mut drawn = panel.clone();
+    if asked.upright {
+        drawn.sheet.function &= !1;
+    }
+    let mut frame = vec![0; panel.sheet.chip.frame_size()];
+    picture::paint(&drawn, font, asked.dark, &mut frame);
+    frame
 }
 
 /// As many rows as the frame has bytes for.
@@ -115,6 +135,8 @@ fn character(code: u8) -> char {
     }
 }
 
+#[cfg(test)]
+mod mirrored;
 #[cfg(test)]
 mod two_lines;
 #[cfg(test)]
@@ -253,7 +275,7 @@ mod tests {
     #[test]
     fn a_bitmap_is_the_frame_behind_two_lines() {
         let font = vec![0; 1_920];
-        let mut asked = Asked { form: Form::Bitmap, dark: false, at: None, font: None, start: fresh() };
+        let mut asked = Asked::plainly(Form::Bitmap, fresh());
         let mut expected = b"P4\n80 8\n".to_vec();
         expected.extend([0; 80]);
         let log = instruction(0, 0x0D);

@@ -1,4 +1,5 @@
--- THE FUNCTION SET BITS have no effect (document 01, "The panel"): what that says of a step.
+-- THE FUNCTION SET BITS have no effect on what the machine does (document 01, "The panel"; in the picture bit 0 has one, document 02, wish 5): what that says of a
+-- step.
 use mathlib.Core.Path.{_≡_}
 use Rattle.chip.specs.Step.{functionSet}
 use Rattle.chip.specs.declared.sheet.Sheet.{Sheet}

@@ -1,6 +1,7 @@
 pub mod Pattern
 pub mod Cursor
 pub mod Frame
+pub mod Mode
 pub mod Picture
 pub mod Paint
 pub mod Compare

@@ -1,4 +1,4 @@
--- What a painting answers and the frame it leaves (document 01, "The picture", "Answer numbers"; of two lines, document 02, wish 1).
+-- What a painting answers and the frame it leaves (document 01, "The picture", "Answer numbers"; of two lines and mirrored glass, document 02, wishes 1 and 5).
 use Prim.Native.Nat.{ℕ}
 use mathlib.Core.Path.{_≡_}
 use mathlib.Core.Bool.{Bool, not}
@@ -11,7 +11,7 @@ use Rattle.dots.specs.Landing.{Landing, dotsFrame, countOf}
 use Rattle.mirror.specs.Panel.{soundPanel}
 use Rattle.mirror.specs.declared.panel.Panel.{Panel}
 use Rattle.picture.specs.Pattern.{fontSize}
-use Rattle.picture.specs.Frame.{glass}
+use Rattle.picture.specs.Mode.{glassFor}
 use Rattle.picture.specs.Picture.{lit}
 use Rattle.mirror.specs.Refusal.{numbered}
 use Rattle.picture.specs.declared.paint.Painted.{Painted}
@@ -30,9 +30,9 @@ paintPaper Unsound = record { number = some 10; dots = 0 }
 abbrev pub paintRefusal : Painted → ℕ
 paintRefusal answer = numbered (paintPaper answer .number)
 
--- the glass of the panel's own chip
+-- the glass of the panel's own chip, in the panel's own mode
 abbrev pub glassOf : Panel → Landing
-glassOf panel = glass (panel .sheet .registers .chip)
+glassOf panel = glassFor (panel .sheet .registers)
 
 -- the number by the paper's tests: 10 for a panel that is not sound, then 9 for a font or a frame of another size, and none otherwise
 abbrev pub paintNumber : Panel → List ℕ → List ℕ → Option ℕ

@@ -1,1 +1,2 @@
 pub mod PictureCases
+pub mod ModeCases

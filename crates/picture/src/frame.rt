@@ -6,6 +6,10 @@ ghost use Rattle.dots.specs.Landing.{dot};
 ghost use Rattle.dots.specs.engine.Cells.{put};
 ghost use Rattle.picture.specs.Frame.{FrameSize, Rows, glass, litAt};
 ghost use Rattle.picture.specs.engine.Shown.{Lands};
+ghost use Rattle.picture.specs.engine.Wiring.{wired};
+use crate::mode::Wiring;
+use crate::mode::column_on;
+use crate::mode::row_on;
 use crate::pattern::TALL;
 use crate::pattern::WIDE;
 use chip::sizes::MOST_LINES;
@@ -38,7 +42,7 @@ pub fn frame_size(chip: u8) -> usize
     rows(chip) * ROW_BYTES
 }
 
-// Where a dot lands.
+// Where a dot of the frame lands; of the picture too, in mode A.
 pub(crate) fn landing(chip: u8, row: usize, column: usize) -> Place
     requires { ⌜ (row < glass chip .rows) × (column < glass chip .cols) ⌝ }
     ensures { λ r. ⌜ Lands chip row column r ⌝ }
@@ -76,12 +80,12 @@ pub fn lit_at(chip: u8, frame: &[u8], row: usize, column: usize) -> bool
     dot_at(chip, frame, row, column) == 1
 }
 
-// Lights one dot where v is 1.
-pub(crate) fn put_dot(chip: u8, frame: &mut [u8], row: usize, column: usize, v: u8)
-    requires { ⌜ (length (now frame) ≡ glass chip .size) × (row < glass chip .rows) × (column < glass chip .cols) × (v < 2) ⌝ }
-    ensures { λ _. ⌜ now (frame .exit) ≡ put (glass chip) (now (frame .entry)) row column v ⌝ }
+// Lights one dot of the picture where v is 1, in the place that it takes on the glass.
+pub(crate) fn put_dot(wiring: Wiring, frame: &mut [u8], row: usize, column: usize, v: u8)
+    requires { ⌜ (length (now frame) ≡ wired wiring .size) × (row < wired wiring .rows) × (column < wired wiring .cols) × (v < 2) ⌝ }
+    ensures { λ _. ⌜ now (frame .exit) ≡ put (wired wiring) (now (frame .entry)) row column v ⌝ }
 {
-    let p = landing(chip, row, column);
+    let p = landing(wiring.chip, row_on(wiring, row), column_on(wiring, column));
     let i = p.byte;
     frame[i] = frame[i] | (v << p.bit);
 }

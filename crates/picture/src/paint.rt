@@ -4,14 +4,17 @@ ghost use Prim.Native.Nat.{_+_, _≤_, _<_};
 ghost use lib.ListN.{length};
 ghost use Rattle.chip.specs.Sizes.{linesOf};
 ghost use Rattle.picture.specs.Pattern.{tall, wide, fontSize, patternsOf};
-ghost use Rattle.picture.specs.Frame.{glass};
+ghost use Rattle.picture.specs.Mode.{glassFor};
 ghost use Rattle.picture.specs.engine.Shown.{cellPut, columnPut, linePut, pagePut, shapeFrom, shownOf};
+ghost use Rattle.picture.specs.engine.Wiring.{wired};
 ghost use Rattle.picture.specs.Paint.{Paints, paintRefusal};
 use crate::count::ones;
 use crate::cursor::here;
 use crate::frame::clear;
 use crate::frame::frame_size;
 use crate::frame::put_dot;
+use crate::mode::Wiring;
+use crate::mode::wiring_of;
 use crate::pattern::FONT_SIZE;
 use crate::pattern::FONT_START;
 use crate::pattern::FULL;
@@ -93,23 +96,23 @@ fn shown(
 }
 
 // Paints column c of a cell, whose upper left dot is (top, left).
-fn put_column(chip: u8, frame: &mut [u8], top: usize, left: usize, rows: [u8; TALL], c: usize)
-    requires { ⌜ (length (now frame) ≡ glass chip .size) × (top + tall ≤ glass chip .rows) × (left + wide ≤ glass chip .cols) × (c < wide) ⌝ }
-    ensures { λ _. ⌜ now (frame .exit) ≡ columnPut chip rows top left c (now (frame .entry)) ⌝ }
+fn put_column(wiring: Wiring, frame: &mut [u8], top: usize, left: usize, rows: [u8; TALL], c: usize)
+    requires { ⌜ (length (now frame) ≡ wired wiring .size) × (top + tall ≤ wired wiring .rows) × (left + wide ≤ wired wiring .cols) × (c < wide) ⌝ }
+    ensures { λ _. ⌜ now (frame .exit) ≡ columnPut (wired wiring) rows top left c (now (frame .entry)) ⌝ }
 {
     for i in 0..TALL {
         let v = (rows[i] >> (WIDE - 1 - c)) & 1;
-        put_dot(chip, frame, top + i, left + c, v);
+        put_dot(wiring, frame, top + i, left + c, v);
     }
 }
 
 // Paints a cell, whose upper left dot is (top, left): by columns, which is faster than by rows (docs/DECISIONS.md, "Speed").
-fn put_cell(chip: u8, frame: &mut [u8], top: usize, left: usize, rows: [u8; TALL])
-    requires { ⌜ (length (now frame) ≡ glass chip .size) × (top + tall ≤ glass chip .rows) × (left + wide ≤ glass chip .cols) ⌝ }
-    ensures { λ _. ⌜ now (frame .exit) ≡ cellPut chip rows top left (now (frame .entry)) ⌝ }
+fn put_cell(wiring: Wiring, frame: &mut [u8], top: usize, left: usize, rows: [u8; TALL])
+    requires { ⌜ (length (now frame) ≡ wired wiring .size) × (top + tall ≤ wired wiring .rows) × (left + wide ≤ wired wiring .cols) ⌝ }
+    ensures { λ _. ⌜ now (frame .exit) ≡ cellPut (wired wiring) rows top left (now (frame .entry)) ⌝ }
 {
     for c in 0..WIDE {
-        put_column(chip, frame, top, left, rows, c);
+        put_column(wiring, frame, top, left, rows, c);
     }
 }
 
@@ -122,19 +125,19 @@ fn put_line(
     dark: bool,
     line: usize,
 )
-    requires { ⌜ (length (now frame) ≡ glass (sheet .registers .chip) .size) × (own ≡ patternsOf (sheet .pattern)) × (length (now font) ≡ fontSize) × (line < linesOf (sheet .registers .chip)) ⌝ }
+    requires { ⌜ (length (now frame) ≡ glassFor (sheet .registers) .size) × (own ≡ patternsOf (sheet .pattern)) × (length (now font) ≡ fontSize) × (line < linesOf (sheet .registers .chip)) ⌝ }
     ensures { λ _. ⌜ now (frame .exit) ≡ linePut sheet (now (font .entry)) dark line (now (frame .entry)) ⌝ }
 {
-    let chip = sheet.registers.chip;
+    let wiring = wiring_of(sheet.registers);
     for p in 0..POSITIONS {
         let rows = shown(sheet, own, font, dark, line, p);
-        put_cell(chip, frame, line * TALL, p * WIDE, rows);
+        put_cell(wiring, frame, line * TALL, p * WIDE, rows);
     }
 }
 
 // Paints every line.
 fn put_lines(frame: &mut [u8], sheet: Sheet, font: &[u8], dark: bool)
-    requires { ⌜ (length (now frame) ≡ glass (sheet .registers .chip) .size) × (length (now font) ≡ fontSize) ⌝ }
+    requires { ⌜ (length (now frame) ≡ glassFor (sheet .registers) .size) × (length (now font) ≡ fontSize) ⌝ }
     ensures { λ _. ⌜ now (frame .exit) ≡ pagePut sheet (now (font .entry)) dark (now (frame .entry)) ⌝ }
 {
     let memory = sheet.pattern;

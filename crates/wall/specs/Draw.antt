@@ -1,11 +1,17 @@
--- The drawing and the bitmap, made of the dots of a chip's frame (docs/WALL.md, "The print").
+-- The drawing and the bitmap, made of the dots of a chip's frame (docs/WALL.md, "The mode", "The print").
 use Prim.Native.Nat.{ℕ, zero, suc, _+_, _*_, _/_, _%_}
 use mathlib.Core.Bool.{Bool, _&&_}
 use mathlib.Core.List.{List, [], _∷_, _++_}
 use Rattle.laws.specs.Pick.{pick}
 use Rattle.laws.specs.Bit.{one}
 use Rattle.dots.specs.Table.{table}
+use Rattle.mirror.specs.declared.panel.Panel.{Panel}
+use Rattle.picture.specs.Mode.{uprightOf}
 use Rattle.picture.specs.Frame.{glass, bytesAcross, litAt}
+
+-- the panel that is drawn: with `upright` as it would be in mode A, and without it as it is (docs/WALL.md, "The mode")
+abbrev pub drawnPanel : Bool → Panel → Panel
+drawnPanel upright p = pick upright (uprightOf p) p
 
 -- eight dots from column x on as one byte, the leftmost in the highest bit
 abbrev pub eightOf : ℕ → List ℕ → ℕ → ℕ → ℕ

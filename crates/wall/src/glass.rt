@@ -4,6 +4,7 @@ ghost use lib.ListN.{length};
 ghost use Rattle.desk.specs.Bytes.{fileBytes};
 ghost use Rattle.picture.specs.Frame.{mostFrameSize};
 ghost use Rattle.picture.specs.Paint.{frameAfter};
+ghost use Rattle.wall.specs.Draw.{drawnPanel};
 use crate::bitmap::write_bitmap;
 use crate::codes::show_cursor;
 use crate::codes::show_lines;
@@ -16,13 +17,22 @@ use mirror::panel::Panel;
 use picture::cursor::shown;
 use picture::frame::MOST_FRAME_SIZE;
 use picture::frame::frame_size;
+use picture::mode::upright;
 use picture::paint::paint;
 
-// How the glass is shown: as a bitmap or drawn, by marks or by blocks, with the blink dark or light.
+// How the glass is shown: as a bitmap or drawn, by marks or by blocks, with the blink dark or light, in mode A or as it is.
 pub(crate) struct Wanted {
     pub bitmap: bool,
     pub marks: bool,
     pub dark: bool,
+    pub upright: bool,
+}
+
+// The panel whose picture is drawn.
+fn drawn(panel: Panel, in_mode_a: bool) -> Panel
+    ensures { λ r. ⌜ r ≡ drawnPanel in_mode_a panel ⌝ }
+{
+    if in_mode_a { upright(panel) } else { panel }
 }
 
 // Paints the panel with a font.
@@ -49,7 +59,7 @@ fn show_beneath(panel: Panel) {
 fn show_lent(panel: Panel, font: Bytes, wanted: Wanted, frame: &mut [u8]) {
     let sheet = panel.sheet;
     let registers = sheet.registers;
-    painted(panel, font, wanted.dark, frame);
+    painted(drawn(panel, wanted.upright), font, wanted.dark, frame);
     if wanted.bitmap {
         write_bitmap(registers.chip, frame);
     } else {

@@ -33,13 +33,15 @@ const PBM: usize = 1;
 
 const DARK: usize = 2;
 
-const AT: usize = 3;
+const UPRIGHT: usize = 3;
 
-const FONT: usize = 4;
+const AT: usize = 4;
 
-const CHIP: usize = 5;
+const FONT: usize = 5;
 
-const TIMES: usize = 6;
+const CHIP: usize = 6;
+
+const TIMES: usize = 7;
 
 // The time to stop at.
 fn time_at(place: usize) -> Number {
@@ -88,6 +90,7 @@ fn show_all(places: [usize; GROUPS], told: Told, until: u64, font: Bytes) {
         bitmap: places[PBM] != 0,
         marks: places[ASCII] != 0,
         dark: places[DARK] != 0,
+        upright: places[UPRIGHT] != 0,
     };
     show_glass(panel, font, wanted);
 }
@@ -96,13 +99,14 @@ fn show_all(places: [usize; GROUPS], told: Told, until: u64, font: Bytes) {
 fn arguments() -> Given {
     asked(
         b"wall",
-        b"ascii, pbm, dark, at TIME, font FILE, chip NAME, times R L S",
+        b"ascii, pbm, dark, upright, at TIME, font FILE, chip NAME, times R L S",
         b"wall < LOG draws what the glass showed at the end of the log: 8 rows of 80 dots, of two lines 16, two\n\
         to a line; then the sixteen codes that each line shows, as text and as numbers, the cursor's position,\n\
         and the display addresses that hold no space.\n\
         ascii        a line for each row of dots, of # and .\n\
         pbm          a portable bitmap of the dots, and nothing else\n\
         dark         the blink is dark; without it, light\n\
+        upright      the picture as in pin configuration mode A; without it, in the mode that the panel is in\n\
         at TIME      the glass at this time, in microseconds, at most 281474976710656\n\
         font FILE    1920 bytes: codes 10h to FFh, eight rows each; without it, a font of its own\n\
         chip NAME    6631, one line, or 6635, two lines; without it, 6631\n\

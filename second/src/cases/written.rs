@@ -79,8 +79,7 @@ fn prints() -> Vec<Case> {
             print.contains("\nshift 15\n") && print.contains("\ngood 0\nwritten 00000804\nframe 0 lit 0 ")
         }),
         case("two places, wall", log, |panel, _, log| {
-            let start = fresh(panel.sheet.chip);
-            let asked = Asked { form: Form::Ascii, dark: false, at: None, font: None, start };
+            let asked = Asked::plainly(Form::Ascii, fresh(panel.sheet.chip));
             wall::print(&asked, &wall_font(), log).ends_with(b"\ncursor off\nwritten 02 0B\n")
         }),
     ]

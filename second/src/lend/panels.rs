@@ -106,7 +106,7 @@ fn spoil(random: &mut Random, panel: &mut Panel, way: u64) {
         0 => sheet.counter = Counter::Display(DisplayAddress(random.pick(&[past, 2 * past - 1, 255]))),
         1 => sheet.counter = Counter::Pattern(PatternAddress(random.pick(&[32, 255]))),
         2 => sheet.shift = random.pick(&[16, 255]),
-        3 => sheet.function = random.pick(&[16, 255]),
+        3 => sheet.function = random.pick(&[16, 17, 255]),
         4 => sheet.pattern[random.below(32) as usize] = random.pick(&[32, 255]),
         5 => {
             sheet.width = Width::Four;

@@ -24,6 +24,7 @@ pub fn all(seed: u64) -> Vec<Question> {
         questions.extend(refused(&mut random, chip));
         questions.extend(one_write(&mut random, chip));
         for width in WIDTHS {
+            questions.push(reset_of_full(&mut random, chip, width));
             questions.extend(every_byte(&mut random, chip, width));
             questions.extend(tours(&mut random, chip, width));
         }
@@ -31,10 +32,13 @@ pub fn all(seed: u64) -> Vec<Question> {
     questions
 }
 
-/// A log for a panel; every third by a call for each record.
+/// A log for a panel; every third by a call for each record. Every other hangs on
+/// mirrored glass, which is no matter to the places and shows more of the picture.
 fn sent_to(panel: &Panel, number: usize, log: &[u8]) -> Question {
     let groups = if number % 3 == 1 { vec![text("records")] } else { Vec::new() };
-    handed_in(panel_file::write(panel), groups, log)
+    let mut panel = panel.clone();
+    panel.sheet.function |= number as u8 & 1;
+    handed_in(panel_file::write(&panel), groups, log)
 }
 
 /// Of before the bits, with some of them, and with more.
@@ -80,6 +84,12 @@ fn one_write(random: &mut Random, chip: Chip) -> Vec<Question> {
         }
     }
     questions
+}
+
+/// A reset at once, which chance alone seldom sends to a memory without a space.
+fn reset_of_full(random: &mut Random, chip: Chip, width: Width) -> Question {
+    let panel = written::sound(chip, width, written::bytes(random, chip, Memory::Full));
+    sent_to(&panel, 0, &log::write_reset(0))
 }
 
 /// All 256 bytes: handed in, and written where each of them turns a bit over.

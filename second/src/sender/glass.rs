@@ -17,6 +17,8 @@ pub struct Scene {
     pub first_code: u8,
     /// The cursor's address instruction, into either memory.
     pub cursor: u8,
+    /// The Function Set bits; bit 0 turns the glass.
+    pub function: u8,
 }
 
 /// A log of at least `target` records, sent to this fresh panel; the last scene
@@ -45,6 +47,7 @@ fn any_scene(random: &mut Random) -> Scene {
         screen: random.pick(&[2, 3, 4, 5, 5, 6, 6, 7, 7]),
         first_code: random.byte(),
         cursor: 0x40 | random.byte() & 0xBF,
+        function: random.byte() & 0x0F,
     }
 }
 
@@ -74,6 +77,7 @@ impl Sender<'_> {
             self.write(scene.first_code.wrapping_add(n as u8));
         }
         self.shift_by(scene.shift);
+        self.set_function(scene.function);
         self.instruct(scene.cursor);
         self.instruct(0x08 | scene.screen);
         self.habits.patient = patient;

@@ -10,7 +10,7 @@ const RANGE_ENDS: [u8; 18] = [
 
 impl Sender<'_> {
     pub(super) fn phrase(&mut self) {
-        match self.random.below(27) {
+        match self.random.below(28) {
             0 => self.start_up(),
             1 | 2 => self.text_line(),
             3 | 4 => self.text_after_polling(),
@@ -29,6 +29,7 @@ impl Sender<'_> {
             17 => self.at_the_ends_of_lines(),
             18..=20 => self.read_that_shows(),
             21..=23 => self.writes_that_show(),
+            24 => self.turn_glass(),
             _ => self.any_transfers(),
         }
     }
@@ -39,7 +40,8 @@ impl Sender<'_> {
         }
         let width = self.random.pick(&[0x20, 0x20, 0x30]);
         let screen = self.random.pick(&[0x08, 0x0C, 0x0D, 0x0E, 0x0F]);
-        for code in [0x30, width, width | 0x08, screen, 0x01, 0x06] {
+        let bits = self.random.pick(&[0x08, 0x08, 0x09, 0x09, 0x01, 0x0A]);
+        for code in [0x30, width, width | bits, screen, 0x01, 0x06] {
             self.instruct(code);
         }
     }
@@ -171,9 +173,12 @@ impl Sender<'_> {
         self.habits.patient = patient;
     }
 
-    /// Most of what is sent is seen only with the display on.
+    /// Most of what is sent is seen only with the display on, in either mode.
     pub(super) fn light_up(&mut self) {
         self.habits.patient = 100;
+        if self.random.flag() {
+            self.turn_glass();
+        }
         let screen = self.random.pick(&[0x0C, 0x0D, 0x0E, 0x0F]);
         self.instruct(screen);
         for _ in 0..self.random.below(4) {

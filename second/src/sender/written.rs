@@ -9,7 +9,7 @@ use crate::panel::{Half, Panel};
 use crate::random::Random;
 use crate::written::SPACE;
 
-const PATIENT: Habits = Habits { patient: 100, tearing: 0, faulty: 0, stubborn: false };
+pub(super) const PATIENT: Habits = Habits { patient: 100, tearing: 0, faulty: 0, stubborn: false };
 
 /// One byte at one place, I/D being up or down, sent to this panel.
 pub fn send_write(random: &mut Random, panel: Panel, place: u8, byte: u8, up: bool) -> Vec<u8> {
@@ -109,7 +109,7 @@ impl Sender<'_> {
 
     /// A transfer as soon as the chip is free, in halves that match where the width is
     /// 4: nothing is left to chance.
-    fn soon(&mut self, rs: bool, rw: bool, byte: u8) {
+    pub(super) fn soon(&mut self, rs: bool, rw: bool, byte: u8) {
         let time = self.panel.busy_end.max(self.panel.last);
         self.transfer_at(time, rs, rw, byte, 0);
     }

@@ -5,7 +5,7 @@ use crate::chips::Chip;
 use crate::panel::Times;
 
 fn asked(form: Form, at: Option<u64>) -> Asked {
-    Asked { form, dark: false, at, font: None, start: Panel::fresh(Chip::TWO_LINES, Times::USUAL) }
+    Asked { at, ..Asked::plainly(form, Panel::fresh(Chip::TWO_LINES, Times::USUAL)) }
 }
 
 /// Records 40 apart from 0: RS and the byte.

@@ -9,7 +9,7 @@ fn last_line(chip: Chip, transfers: &[(u8, u8)]) -> String {
     let log: Vec<(u64, u8, u8)> =
         transfers.iter().zip((0..).step_by(2_000)).map(|(&(rs, byte), time)| (time, rs, byte)).collect();
     let start = Panel::fresh(chip, Times::USUAL);
-    let asked = Asked { form: Form::HalfBlocks, dark: false, at: None, font: None, start };
+    let asked = Asked::plainly(Form::HalfBlocks, start);
     let print = String::from_utf8(print(&asked, &[0; 1_920], &log::write_transfers(&log))).expect("text");
     print.strip_suffix('\n').and_then(|print| print.lines().last()).expect("a last line").to_string()
 }

@@ -1,4 +1,4 @@
--- The low four Function Set bits are kept as written, and have no effect: no step and no read looks at them.
+-- The low four Function Set bits are kept as written, and no step and no read looks at them.
 use Prim.Native.Nat.{ℕ}
 use mathlib.Core.Path.{_≡_, refl, sym, ap, _∙_}
 use mathlib.Core.Bool.{Bool, true, false}

@@ -32,7 +32,7 @@ abbrev glyphs : ℕ → ℕ → List ℕ
 glyphs zero i = []
 glyphs (suc n) i = 31 * i % 241 ∷ glyphs n (i + 1)
 
-abbrev font : List ℕ
+abbrev pub font : List ℕ
 font = glyphs 1_920 0
 
 -- display memory with the codes at the edges: 10h and FFh of the font, 0Fh and others of each pattern
@@ -40,19 +40,23 @@ abbrev edges : List ℕ
 edges =
     (0x10 ∷ 0xff ∷ 0x0f ∷ 0x0a ∷ 0x05 ∷ 0x00 ∷ 0x41 ∷ 0x11 ∷ 0xfe ∷ 0x80 ∷ 0x7f ∷ 0x20 ∷ 0x0d ∷ 0x02 ∷ 0x1f ∷ 0x0e ∷ []) ++ replicate 16 0x20
 
--- address, shift, D, C, B; the Function Set bits are all set, and show nothing
+-- Function Set bits, address, shift, D, C, B
+abbrev pub glassWith : ℕ → Address → ℕ → ℕ → ℕ → ℕ → Panel
+glassWith function address shift d c b = panelWith (regs address shift 0 1 d c b 8 function) edges dots 900 Empty 800
+
+-- the Function Set bits are all set but for bit 0, which is the mode, and show nothing
 abbrev glass : Address → ℕ → ℕ → ℕ → ℕ → Panel
-glass address shift d c b = panelWith (regs address shift 0 1 d c b 8 15) edges dots 900 Empty 800
+glass = glassWith 14
 
 -- a painting: panel, font, whether the blink is dark, frame lent; what is answered, and the frame afterwards
-abbrev Painting : Type 0
+abbrev pub Painting : Type 0
 Painting = Panel × List ℕ × Bool × List ℕ
 
-abbrev painted : Painting → Painted × List ℕ
+abbrev pub painted : Painting → Painted × List ℕ
 painted p = (paintedOf (p .0) (p .1) (p .2) (p .3), frameAfter (p .0) (p .1) (p .2) (p .3))
 
 -- a frame that was painted before
-abbrev old : List ℕ
+abbrev pub old : List ℕ
 old = replicate 80 0xa5
 
 -- address 9, shift 6: the cursor at position 3, in row 7
@@ -104,19 +108,23 @@ pub pictures-computed : Hold painted pictures
 unfolding picturing
 pictures-computed = refl
 
--- TWO LINES with a font that is blank: address, shift, D, C, B; both lines blank but for the codes given
-abbrev pane : Address → ℕ → ℕ → ℕ → ℕ → List ℕ → Panel
-pane address shift d c b display = panelWith (regsOf 35 (regs address shift 0 1 d c b 8 15)) display dots 900 Empty 800
+-- TWO LINES with a font that is blank: Function Set bits, address, shift, D, C, B; both lines blank but for the codes given
+abbrev pub paneWith : ℕ → Address → ℕ → ℕ → ℕ → ℕ → List ℕ → Panel
+paneWith function address shift d c b display = panelWith (regsOf 35 (regs address shift 0 1 d c b 8 function)) display dots 900 Empty 800
 
-abbrev blankFont : List ℕ
+-- in mode A, as above
+abbrev pane : Address → ℕ → ℕ → ℕ → ℕ → List ℕ → Panel
+pane = paneWith 14
+
+abbrev pub blankFont : List ℕ
 blankFont = replicate 1_920 0
 
 -- n bytes of 0
-abbrev none : ℕ → List ℕ
+abbrev pub none : ℕ → List ℕ
 none n = replicate n 0
 
 -- the same cell in every one of n rows of ten bytes: two bytes from the place on
-abbrev column : ℕ → ℕ → ℕ → ℕ → List ℕ
+abbrev pub column : ℕ → ℕ → ℕ → ℕ → List ℕ
 column zero at a b = []
 column (suc n) at a b = none at ++ (a ∷ b ∷ none (8 - at)) ++ column n at a b
 

@@ -18,6 +18,7 @@ use Rattle.picture.proofs.cursor.shown as cursor·shown
 use Rattle.picture.proofs.frame.rows as frame·rows
 use Rattle.picture.proofs.frame.frame_size as frame·size
 use Rattle.picture.proofs.frame.lit_at as frame·lit
+use Rattle.picture.proofs.mode.upright as mode·upright
 use Rattle.picture.proofs.paint.paint as paint·paint
 use Rattle.picture.proofs.paint.Painted.refusal as paint·refusal
 use Rattle.picture.proofs.pattern.pattern as pattern·pattern
@@ -60,6 +61,10 @@ module _ {M : Type 1} (𝓤 : URA M) (H : Heap 𝓤) (A : Atoms 𝓤) (mem : Mem
   -- picture::frame::lit_at: r ≡ litAt chip (now (frame .entry)) row column
   pub lit-at : DeterminesAnswer 𝓤 frame·lit.ended (frame·lit.clauses 𝓤 H A mem run)
   lit-at = equation 𝓤 _ _ _ (λ κs a g r e. refl)
+
+  -- picture::mode::upright: r ≡ uprightOf panel
+  pub upright : DeterminesAnswer 𝓤 mode·upright.ended (mode·upright.clauses 𝓤 H A mem run)
+  upright = equation 𝓤 _ _ _ (λ κs a g r e. refl)
 
   -- picture::paint::paint: Paints panel (now (font .entry)) dark (now (frame .entry)) r (now (frame .exit))
   pub paint : Determines 𝓤 paint·paint.ended (paint·paint.clauses 𝓤 H A mem run) {L = List ℕ} (λ κs e. now (e .1 .1 .1 .0))

@@ -7,12 +7,14 @@ use lib.Dec.{ltb}
 use lib.ListN.{getD, replicate, set}
 use Rattle.laws.specs.Pick.{pick}
 use Rattle.laws.specs.Bit.{bit}
+use Rattle.dots.specs.Landing.{Landing}
 use Rattle.dots.specs.engine.Cells.{strip, block, line, page}
 use Rattle.chip.specs.Sizes.{linesOf, positions, rowEnd}
 use Rattle.chip.specs.declared.sheet.Sheet.{Sheet}
 use Rattle.picture.specs.Pattern.{tall, wide, patterns, fontStart, glyphOf}
 use Rattle.picture.specs.Cursor.{cursorHere}
 use Rattle.picture.specs.Frame.{glass}
+use Rattle.picture.specs.Mode.{glassFor}
 use Rattle.picture.specs.Picture.{shapeAt, cursorRow}
 use Rattle.picture.specs.declared.frame.Place.{Place}
 
@@ -44,17 +46,17 @@ abbrev pub pageDot : Sheet → List ℕ → Bool → ℕ → ℕ → ℕ → ℕ
 pageDot s font dark l p = cellDot (shownOf s font dark l p)
 
 -- the frame with column c of a cell put, with a cell put, its upper left dot being (r, x), with line l put, with all lines put
-abbrev pub columnPut : ℕ → List ℕ → ℕ → ℕ → ℕ → List ℕ → List ℕ
-columnPut chip rows r x c = strip (glass chip) tall (λ i. cellDot rows i c) r (x + c)
+abbrev pub columnPut : Landing → List ℕ → ℕ → ℕ → ℕ → List ℕ → List ℕ
+columnPut L rows r x c = strip L tall (λ i. cellDot rows i c) r (x + c)
 
-abbrev pub cellPut : ℕ → List ℕ → ℕ → ℕ → List ℕ → List ℕ
-cellPut chip rows = block (glass chip) tall wide (cellDot rows)
+abbrev pub cellPut : Landing → List ℕ → ℕ → ℕ → List ℕ → List ℕ
+cellPut L rows = block L tall wide (cellDot rows)
 
 abbrev pub linePut : Sheet → List ℕ → Bool → ℕ → List ℕ → List ℕ
-linePut s font dark l = line (glass (s .registers .chip)) tall wide positions (pageDot s font dark l) (l * tall)
+linePut s font dark l = line (glassFor (s .registers)) tall wide positions (pageDot s font dark l) (l * tall)
 
 abbrev pub pagePut : Sheet → List ℕ → Bool → List ℕ → List ℕ
-pagePut s font dark = page (glass (s .registers .chip)) tall wide positions (linesOf (s .registers .chip)) (pageDot s font dark)
+pagePut s font dark = page (glassFor (s .registers)) tall wide positions (linesOf (s .registers .chip)) (pageDot s font dark)
 
 -- the place is where dot (r, x) of a chip's frame lands, which is inside the frame
 pub record Lands (chip r x : ℕ) (place : Place) : Type 0 where

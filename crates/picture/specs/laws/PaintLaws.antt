@@ -19,7 +19,8 @@ use Rattle.chip.specs.declared.sheet.Sheet.{Sheet}
 use Rattle.mirror.specs.Panel.{soundPanel}
 use Rattle.mirror.specs.declared.panel.Panel.{Panel}
 use Rattle.picture.specs.Pattern.{tall, wide, fontSize}
-use Rattle.picture.specs.Frame.{glass, litAt}
+use Rattle.picture.specs.Frame.{litAt}
+use Rattle.picture.specs.Mode.{modeB, rowTurn, columnTurn, glassFor}
 use Rattle.chip.specs.Sizes.{linesOf, positions}
 use Rattle.picture.specs.Picture.{lit}
 use Rattle.picture.specs.engine.Shown.{pageDot, pagePut}
@@ -30,7 +31,7 @@ use Rattle.picture.specs.declared.paint.Painted.the-variants.{Lit, Size,
 
 module _ (s : Sheet) (font : List ℕ) (dark : Bool) where
   abbrev own : Landing
-  own = glass (s .registers .chip)
+  own = glassFor (s .registers)
 
   abbrev count : ℕ
   count = linesOf (s .registers .chip)
@@ -120,13 +121,25 @@ module _ (panel : Panel) (font : List ℕ) (dark : Bool) (frame : List ℕ) wher
       (λ e. absurd (let z : _≡_ {A = ℕ} 0 1 = cc in omega arith)) (λ e. absurd (let z : _≡_ {A = ℕ} 0 1 = cc in omega arith))
       (λ _. (refl, dot-frame (glassOf panel) (lit (panel .sheet) font dark)))
 
-  -- and read dot by dot it is the picture
+  -- the place that row r takes in the panel's own mode, and column x
+  abbrev rowOn : ℕ → ℕ
+  rowOn r = rowTurn (panel .sheet .registers .chip) (modeB (panel .sheet .registers)) .at r
+
+  abbrev columnOn : ℕ → ℕ
+  columnOn x = columnTurn (panel .sheet .registers .chip) (modeB (panel .sheet .registers)) .at x
+
+  -- and read dot by dot, each in the place that it takes, it is the picture
   pub painted-lit : paintPaper (paintedOf panel font dark frame) .number ≡ none → (r x : ℕ) → r < glassOf panel .rows → x < glassOf panel .cols
-      → litAt (panel .sheet .registers .chip) (frameAfter panel font dark frame) r x ≡ lit (panel .sheet) font dark r x
+      → litAt (panel .sheet .registers .chip) (frameAfter panel font dark frame) (rowOn r) (columnOn x) ≡ lit (panel .sheet) font dark r x
   painted-lit h r x p q =
-      painting-is (λ a f. paintPaper a .number ≡ none → litAt (panel .sheet .registers .chip) f r x ≡ lit (panel .sheet) font dark r x)
+      painting-is (λ a f. paintPaper a .number ≡ none → litAt (panel .sheet .registers .chip) f (rowOn r) (columnOn x) ≡ lit (panel .sheet) font dark r x)
       (λ e. absurd (let z : _≡_ {A = ℕ} 0 1 = cc in omega arith)) (λ e. absurd (let z : _≡_ {A = ℕ} 0 1 = cc in omega arith))
-      (λ _. rw (eq-eqb _ _ (length-frame (glassOf panel) (lit (panel .sheet) font dark)), lt-leb _ _ p, lt-leb _ _ q, dot-frame (glassOf panel) (lit (panel .sheet) font dark) r x p q)
+      (λ _. rw (
+        eq-eqb _ _ (length-frame (glassOf panel) (lit (panel .sheet) font dark)),
+        lt-leb _ _ (rowTurn (panel .sheet .registers .chip) (modeB (panel .sheet .registers)) .inside r p),
+        lt-leb _ _ (columnTurn (panel .sheet .registers .chip) (modeB (panel .sheet .registers)) .inside x q),
+        dot-frame (glassOf panel) (lit (panel .sheet) font dark) r x p q,
+      )
       (one-eqb (lit (panel .sheet) font dark r x)))
       h
     where

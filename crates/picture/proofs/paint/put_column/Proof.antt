@@ -9,22 +9,23 @@ use Rattle.dots.specs.engine.Cells.{put}
 use Rattle.dots.specs.laws.LandingLaws.{length-put}
 use Rattle.dots.specs.laws.ThroughLaws.{Through, through-start, through-next, through-end, through-long}
 use Rattle.picture.specs.Pattern.{tall}
-use Rattle.picture.specs.Frame.{glass}
+use Rattle.dots.specs.Landing.{Landing}
 use Rattle.picture.specs.engine.Shown.{cellDot}
+use Rattle.picture.specs.engine.Wiring.{wired}
 use Rattle.picture.proofs.paint.put_column.Statement.{statement}
 use Rattle.picture.proofs.paint.put_column.Tie as tie
 
-abbrev step : ℕ → List ℕ → ℕ → ℕ → ℕ → ℕ → List ℕ → List ℕ
-step chip rows top left c i f = put (glass chip) f (top + i) (left + c) (cellDot rows i c)
+abbrev step : Landing → List ℕ → ℕ → ℕ → ℕ → ℕ → List ℕ → List ℕ
+step L rows top left c i f = put L f (top + i) (left + c) (cellDot rows i c)
 
 mask : (a : ℕ) → bitAnd a 1 ≡ a % 2
 mask a = and-mask a 1
 
 abbrev Inv-loop : tie.InvT-loop
-Inv-loop chip frame₀ top left c rows i₀ frame i = Through (step chip rows top left c) tall frame₀ frame i
+Inv-loop wiring frame₀ top left c rows i₀ frame i = Through (step (wired wiring) rows top left c) tall frame₀ frame i
 
 abbrev μ-loop : tie.MeasureT-loop
-μ-loop chip frame₀ top left c rows i₀ frame i = tall - i
+μ-loop wiring frame₀ top left c rows i₀ frame i = tall - i
 
 loop-holds : tie.Need-loop-holds Inv-loop μ-loop
 loop-holds c = through-start _ _ _
@@ -54,7 +55,7 @@ put-dot-requires : tie.Need-put-dot-requires Inv-loop μ-loop
 put-dot-requires c κs =
     let l = c .before .before .loop in
     let b = c .before .before .before .before in
-    (through-long _ _ _ (λ i f. length-put (glass (b .args .chip)) f _ _ _) _ _ (l .inv) ∙ b .pre .0, omega arith, omega arith, simp mask (omega arith))
+    (through-long _ _ _ (λ i f. length-put (wired (b .args .wiring)) f _ _ _) _ _ (l .inv) ∙ b .pre .0, omega arith, omega arith, simp mask (omega arith))
 
 add-i : tie.Need-add-i Inv-loop μ-loop
 add-i c = search needs
@@ -67,7 +68,7 @@ loop-again c =
     through-next _ _ _ _ _ _ (c .before .before .before .before .before .loop .inv) (omega arith) (simp mask at (c .before .before .put-dot .ensures))
 
 same-length : tie.Need-same-length Inv-loop μ-loop
-same-length c = through-long _ _ _ (λ i f. length-put (glass (c .before .before .before .args .chip)) f _ _ _) _ _ (c .before .loop .inv)
+same-length c = through-long _ _ _ (λ i f. length-put (wired (c .before .before .before .args .wiring)) f _ _ _) _ _ (c .before .loop .inv)
 
 returns : tie.Need-returns Inv-loop μ-loop
 returns c = through-end _ _ _ _ _ (c .before .loop .inv) (omega arith)

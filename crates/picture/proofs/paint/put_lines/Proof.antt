@@ -7,7 +7,7 @@ use Rattle.dots.specs.laws.ThroughLaws.{Through, through-start, through-next, t
 use Rattle.chip.specs.Sizes.{linesOf, positions}
 use Rattle.chip.specs.laws.SizesLaws.{lines-few}
 use Rattle.picture.specs.Pattern.{tall, wide, patternsOf}
-use Rattle.picture.specs.Frame.{glass}
+use Rattle.picture.specs.Mode.{glassFor}
 use Rattle.picture.specs.engine.Shown.{linePut}
 use Rattle.picture.proofs.paint.put_lines.Statement.{statement}
 use Rattle.picture.proofs.paint.put_lines.Tie as tie
@@ -31,7 +31,7 @@ put-line-requires : tie.Need-put-line-requires Inv-loop μ-loop
 put-line-requires c κs =
     let l = c .before .before .loop in
     let b = c .before .before .before .before .before .before .before .before in
-    (through-long _ _ _ (λ l f. length-line (glass (b .args .sheet .registers .chip)) tall wide positions _ _ f) _ _ (l .inv .0) ∙ b .pre .0, l .inv .1, b .pre .1, omega (arith, l .inv .2))
+    (through-long _ _ _ (λ l f. length-line (glassFor (b .args .sheet .registers)) tall wide positions _ _ f) _ _ (l .inv .0) ∙ b .pre .0, l .inv .1, b .pre .1, omega (arith, l .inv .2))
 
 add-line : tie.Need-add-line Inv-loop μ-loop
 add-line c = omega (arith, lines-few (c .before .before .before .before .before .before .before .before .before .before .before .args .sheet .registers .chip), c .before .before .before .before .before .loop .inv .2)
@@ -45,7 +45,7 @@ loop-again c =
     (through-next _ _ _ _ _ _ (l .inv .0) (omega (arith, l .inv .2)) (c .before .before .put-line .ensures), l .inv .1, l .inv .2)
 
 same-length : tie.Need-same-length Inv-loop μ-loop
-same-length c = through-long _ _ _ (λ l f. length-line (glass (c .before .before .before .before .before .before .before .args .sheet .registers .chip)) tall wide positions _ _ f) _ _ (c .before .loop .inv .0)
+same-length c = through-long _ _ _ (λ l f. length-line (glassFor (c .before .before .before .before .before .before .before .args .sheet .registers)) tall wide positions _ _ f) _ _ (c .before .loop .inv .0)
 
 returns : tie.Need-returns Inv-loop μ-loop
 returns c = through-end _ _ _ _ _ (c .before .loop .inv .0) (omega (arith, c .before .loop .inv .2))
