@@ -1,5 +1,5 @@
 // The painter in plain C, written for speed: the twin that `paintings` is measured against. It paints the panel that a log
-// leaves as often, with the same font, shifts and blink, and prints the same two lines, for either chip.
+// leaves as often, with the same font, shifts and blink, and prints the same two lines, for either chip and either mode.
 #define main mirror_main
 #include "mirror.c"
 #undef main
@@ -16,9 +16,8 @@ static int sound(const panel *p, uint8_t last_place) {
     return p->last >> 48 == 0 && p->busy < (1ull << 48) + 65536;
 }
 
-// One line, from its first byte on, each cell by columns. A function of its own that is told that a frame is no part of a
-// panel is faster by a sixteenth than the loop within the other.
-__attribute__((noinline)) static void put_line(const panel *restrict p, uint8_t *restrict top, int line, int cursor, int dark) {
+// One line, from its first byte on, each cell by columns, which are turned in mode B.
+static inline __attribute__((always_inline)) void put_columns(const panel *restrict p, uint8_t *restrict top, int line, int cursor, int dark, int turned) {
     int blink = p->blink && dark, under = p->cursor, shift = p->shift;
     for (int cell = 0; cell < 16; cell++) {
         uint8_t code = p->display[16 * line + ((cell + shift) & 15)];
@@ -26,10 +25,20 @@ __attribute__((noinline)) static void put_line(const panel *restrict p, uint8_t 
         uint8_t dots[8];
         for (int r = 0; r < 8; r++) dots[r] = cell == cursor && (blink || (under && r == 7)) ? 31 : rows[r] & 31;
         for (int c = 0; c < 5; c++) {
-            int x = 5 * cell + c;
+            int x = turned ? 79 - (5 * cell + c) : 5 * cell + c;
             for (int r = 0; r < 8; r++) top[10 * r + x / 8] |= (dots[r] >> (4 - c) & 1) << (7 - x % 8);
         }
     }
+}
+
+// Functions of their own that are told that a frame is no part of a panel are faster by a sixteenth than the loop within the
+// other, and one for each mode by a twenty-fifth than one for both.
+__attribute__((noinline)) static void put_line(const panel *restrict p, uint8_t *restrict top, int line, int cursor, int dark) {
+    put_columns(p, top, line, cursor, dark, 0);
+}
+
+__attribute__((noinline)) static void put_turned(const panel *restrict p, uint8_t *restrict top, int line, int cursor, int dark) {
+    put_columns(p, top, line, cursor, dark, 1);
 }
 
 // The ones of each byte of the frame, added up: the fastest of five ways to count them (docs/DECISIONS.md, "Speed").
@@ -50,8 +59,13 @@ static int paint(const panel *p, uint8_t last_place, int dark) {
     memset(frame, 0, 80 * lines);
     if (!p->on) return 0;
     int cursor_line = p->address / 16 % lines, cursor = (p->address + 16 - p->shift) & 15;
-    for (int line = 0; line < lines; line++)
-        put_line(p, frame + 80 * line, line, line == cursor_line ? cursor : -1, dark);
+    for (int line = 0; line < lines; line++) {
+        int at = line == cursor_line ? cursor : -1;
+        if (p->function & 1)
+            put_turned(p, frame + 80 * (lines - 1 - line), line, at, dark);
+        else
+            put_line(p, frame + 80 * line, line, at, dark);
+    }
     return count(80 * lines);
 }
 
