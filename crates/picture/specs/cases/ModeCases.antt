@@ -58,6 +58,11 @@ corner-two-lines : frameOf (cornered 0x31 twoLines) ≡ replicate 89 0 ++ 0x01 �
 unfolding dotsFrame lit table pack
 corner-two-lines = refl
 
+-- and so with the three other bits set
+corner-all-bits : frameOf (cornered 0x3F twoLines) ≡ replicate 89 0 ++ 0x01 ∷ replicate 70 0
+unfolding dotsFrame lit table pack
+corner-all-bits = refl
+
 -- bit 1 is not the mode
 corner-bit-one : frameOf (cornered 0x32 oneLine) ≡ 0x80 ∷ replicate 79 0
 unfolding dotsFrame lit table pack
