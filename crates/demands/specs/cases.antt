@@ -10,6 +10,7 @@ pub mod AnswerCases
 pub mod RunCases
 pub mod SoundCases
 pub mod GlassCases
+pub mod ModeCases
 pub mod MirroredCases
 pub mod StrikeCases
 pub mod Refuted

@@ -1,2 +1,1 @@
 pub mod PictureCases
-pub mod ModeCases

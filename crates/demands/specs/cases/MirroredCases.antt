@@ -1,45 +1,38 @@
--- THE TABLE OF MIRRORED PICTURES (document 02, wish 5): in mode B, which is Function Set bit 0, on one line and on two. The whole frames were worked out from the
--- paper by the program that worked out those of mode A, which goes over all dots, tells of each whether it is lit, and where it lands.
-use Prim.Native.Nat.{ℕ}
+-- THE TABLE OF MIRRORED PICTURES (document 02, wish 5): in mode B, which is Function Set bit 0, on one line and on two. The frames of mode A were worked out from
+-- the paper (THE TABLE OF PICTURES); what the wish makes of a frame is said here of its bytes, without a word of where a dot lands.
+use Prim.Native.Nat.{ℕ, zero, suc, _-_}
 use mathlib.Core.Path.{refl}
 use mathlib.Core.Bool.{true, false}
 use mathlib.Core.List.{List, [], _∷_, _++_}
-use lib.ListN.{replicate}
-use Rattle.chip.specs.declared.address.Address.{Address}
+use lib.ListN.{replicate, take, drop}
+use Rattle.laws.specs.Bit.{bit, pack}
 use Rattle.picture.specs.declared.paint.Painted.{Painted}
 use Rattle.picture.specs.declared.paint.Painted.the-variants as painting
-use Rattle.mirror.specs.declared.half.Half.the-variants.{Empty}
-use Rattle.mirror.specs.declared.panel.Panel.{Panel}
-use Rattle.demands.specs.cases.RowCases.{Hold, shows, draws, regs, with, panelOn}
-use Rattle.demands.specs.cases.GlassCases.{picturing, font, glassWith, paneWith, Painting, painted, old, blankFont, none, column}
+use Rattle.demands.specs.cases.RowCases.{Hold, shows, draws, with}
+use Rattle.demands.specs.cases.GlassCases.{picturing, font, edges, glassWith, paneWith, Painting, painted, old, underline, block, bright, blankFont, none, column}
 
--- the pictures of the table in mode A, from right to left. All four bits are set, or bit 0 alone
-abbrev underline : List ℕ
-underline =
-    0xe7 ∷ 0xfb ∷ 0xec ∷ 0x03 ∷ 0xb2 ∷ 0xef ∷ 0xc2 ∷ 0xdb ∷ 0x9f ∷ 0x8c
-    ∷ 0x4a ∷ 0x90 ∷ 0xb8 ∷ 0xfd ∷ 0x02 ∷ 0x42 ∷ 0xbd ∷ 0x53 ∷ 0xa9 ∷ 0x94
-    ∷ 0xbd ∷ 0x6d ∷ 0x40 ∷ 0xbe ∷ 0xdc ∷ 0xb5 ∷ 0x5c ∷ 0x5d ∷ 0xca ∷ 0x84
-    ∷ 0x10 ∷ 0x06 ∷ 0x1f ∷ 0x5c ∷ 0x6c ∷ 0x18 ∷ 0x2d ∷ 0x95 ∷ 0x88 ∷ 0x98
-    ∷ 0xce ∷ 0xb1 ∷ 0xb7 ∷ 0x1f ∷ 0x14 ∷ 0xc6 ∷ 0x8c ∷ 0x99 ∷ 0xf3 ∷ 0x08
-    ∷ 0x7b ∷ 0x5c ∷ 0xcb ∷ 0x6d ∷ 0xd9 ∷ 0x73 ∷ 0x57 ∷ 0x11 ∷ 0xb1 ∷ 0x01
-    ∷ 0x94 ∷ 0x27 ∷ 0x13 ∷ 0x2e ∷ 0x69 ∷ 0x9c ∷ 0x26 ∷ 0x16 ∷ 0x52 ∷ 0x1e
-    ∷ 0x29 ∷ 0x88 ∷ 0x7d ∷ 0x4c ∷ 0x91 ∷ 0x21 ∷ 0x86 ∷ 0xff ∷ 0x90 ∷ 0x0e ∷ []
+-- the bytes of a row back to front, the bits of each too
+abbrev backToFront : List ℕ → List ℕ → List ℕ
+backToFront [] done = done
+backToFront (byte ∷ rest) done = backToFront rest (pack (λ i. bit byte (7 - i)) 8 ∷ done)
 
-abbrev block : List ℕ
-block =
-    0x6d ∷ 0xcf ∷ 0xcf ∷ 0xf3 ∷ 0xfd ∷ 0xf6 ∷ 0x01 ∷ 0xd9 ∷ 0x77 ∷ 0xe1
-    ∷ 0xa9 ∷ 0xd4 ∷ 0xcf ∷ 0xa5 ∷ 0x48 ∷ 0x5c ∷ 0x7e ∷ 0x81 ∷ 0x21 ∷ 0x5e
-    ∷ 0x2e ∷ 0xe5 ∷ 0x4f ∷ 0xde ∷ 0xb6 ∷ 0xa0 ∷ 0x5f ∷ 0x6e ∷ 0x5a ∷ 0xae
-    ∷ 0xca ∷ 0xc4 ∷ 0x4f ∷ 0x88 ∷ 0x03 ∷ 0x0f ∷ 0xae ∷ 0x36 ∷ 0x0c ∷ 0x16
-    ∷ 0x4c ∷ 0xf9 ∷ 0x8f ∷ 0xe7 ∷ 0x58 ∷ 0xdb ∷ 0x8f ∷ 0x8a ∷ 0x63 ∷ 0x46
-    ∷ 0x88 ∷ 0xd8 ∷ 0x8f ∷ 0xbd ∷ 0xae ∷ 0x65 ∷ 0xb6 ∷ 0xec ∷ 0xb9 ∷ 0xab
-    ∷ 0x0b ∷ 0x29 ∷ 0x0f ∷ 0xca ∷ 0x13 ∷ 0x89 ∷ 0x97 ∷ 0x34 ∷ 0xce ∷ 0x13
-    ∷ 0x7d ∷ 0x08 ∷ 0x0f ∷ 0x94 ∷ 0xc4 ∷ 0x3e ∷ 0xa6 ∷ 0x48 ∷ 0x90 ∷ 0xc3 ∷ []
+-- n rows of ten bytes from right to left, in the order that they have
+abbrev rightToLeft : ℕ → List ℕ → List ℕ
+rightToLeft zero frame = []
+rightToLeft (suc n) frame = backToFront (take 10 frame) [] ++ rightToLeft n (drop 10 frame)
 
+-- a one-line frame runs right to left; a two-line frame also has its halves exchanged
+abbrev oneLine : List ℕ → List ℕ
+oneLine frame = rightToLeft 8 frame
+
+abbrev twoLines : List ℕ → List ℕ → List ℕ
+twoLines upper lower = rightToLeft 8 lower ++ rightToLeft 8 upper
+
+-- all four bits are set, or bit 0 alone
 abbrev pictures : List (Painting × (Painted × List ℕ))
 pictures =
-    ((glassWith 15 (shows 9) 6 1 1 0, font, true, old), (painting.Lit 311, underline))
-    ∷ ((glassWith 1 (draws 22) 11 1 0 1, font, true, old), (painting.Lit 332, block))
+    ((glassWith 15 (shows 9) 6 1 1 0, font, true, old), (painting.Lit 311, oneLine underline))
+    ∷ ((glassWith 1 (draws 22) 11 1 0 1, font, true, old), (painting.Lit 332, oneLine block))
     -- D = 0: no dot is lit
     ∷ ((glassWith 15 (shows 9) 6 0 1 1, font, true, old), (painting.Lit 0, replicate 80 0))
     -- another size, and Function Set bits out of range, whose bit 0 is set: refused as in mode A
@@ -51,30 +44,18 @@ pub pictures-computed : Hold painted pictures
 unfolding picturing
 pictures-computed = refl
 
--- two lines, every place different, the cursor and the blink at pattern address 25, shift 6, which is line 1, position 3: the second line is the upper half
-abbrev both : List ℕ
-both =
-    0xe4 ∷ 0x14 ∷ 0x4b ∷ 0x70 ∷ 0x32 ∷ 0xed ∷ 0x5e ∷ 0x3f ∷ 0xec ∷ 0x8f
-    ∷ 0x67 ∷ 0xa4 ∷ 0x93 ∷ 0x57 ∷ 0xc2 ∷ 0x46 ∷ 0x2e ∷ 0xcf ∷ 0xcb ∷ 0x06
-    ∷ 0xa3 ∷ 0x85 ∷ 0x1d ∷ 0x15 ∷ 0xdc ∷ 0xb2 ∷ 0x0f ∷ 0x4f ∷ 0x89 ∷ 0x1a
-    ∷ 0x25 ∷ 0xb8 ∷ 0x15 ∷ 0x66 ∷ 0xcc ∷ 0x1c ∷ 0x36 ∷ 0x4f ∷ 0xf2 ∷ 0x0a
-    ∷ 0xc1 ∷ 0x99 ∷ 0xe9 ∷ 0x24 ∷ 0xd4 ∷ 0xc0 ∷ 0x17 ∷ 0x8f ∷ 0xb0 ∷ 0x12
-    ∷ 0x8e ∷ 0x8a ∷ 0xee ∷ 0xc5 ∷ 0x79 ∷ 0x77 ∷ 0xc4 ∷ 0x8f ∷ 0xd1 ∷ 0xc2
-    ∷ 0x0a ∷ 0xb3 ∷ 0x66 ∷ 0x86 ∷ 0x69 ∷ 0x9b ∷ 0xf9 ∷ 0x0f ∷ 0x92 ∷ 0xdc
-    ∷ 0xf4 ∷ 0x92 ∷ 0x6a ∷ 0xf8 ∷ 0x71 ∷ 0x25 ∷ 0xd8 ∷ 0x0f ∷ 0xe0 ∷ 0xcc
-    ∷ 0xf0 ∷ 0xc3 ∷ 0x38 ∷ 0xaf ∷ 0xc8 ∷ 0xd6 ∷ 0x0c ∷ 0x4b ∷ 0x51 ∷ 0xdd
-    ∷ 0x77 ∷ 0x7c ∷ 0x30 ∷ 0xcd ∷ 0x70 ∷ 0x52 ∷ 0x35 ∷ 0x83 ∷ 0x12 ∷ 0xd4
-    ∷ 0xb5 ∷ 0x1d ∷ 0xdf ∷ 0x0e ∷ 0x80 ∷ 0x1c ∷ 0x14 ∷ 0x8d ∷ 0x60 ∷ 0xc4
-    ∷ 0x31 ∷ 0x2d ∷ 0x47 ∷ 0x74 ∷ 0x3f ∷ 0xe8 ∷ 0x07 ∷ 0x05 ∷ 0x23 ∷ 0x58
-    ∷ 0xd6 ∷ 0x0c ∷ 0x4b ∷ 0x53 ∷ 0x6f ∷ 0x6f ∷ 0xfa ∷ 0x01 ∷ 0xc1 ∷ 0x48
-    ∷ 0x52 ∷ 0x35 ∷ 0x83 ∷ 0x11 ∷ 0x86 ∷ 0xab ∷ 0xdb ∷ 0xfe ∷ 0x80 ∷ 0x70
-    ∷ 0x1c ∷ 0x14 ∷ 0x8d ∷ 0x62 ∷ 0x3a ∷ 0x29 ∷ 0xaa ∷ 0xf6 ∷ 0xff ∷ 0xa0
-    ∷ 0xe8 ∷ 0x07 ∷ 0x05 ∷ 0x20 ∷ 0xea ∷ 0xce ∷ 0x8a ∷ 0x6a ∷ 0xbd ∷ 0xbf ∷ []
+-- the same codes on both lines, at pattern address 22, shift 11, with the blink: it stands on the second line, which is as `block`. The first is as `bright` without
+-- its cursor: row 7 of code 41h is font byte 399, 31 x 399 mod 241 = 78, whose low five bits are 01110, in the columns 55 to 59
+abbrev doubled : List ℕ
+doubled = take 16 edges ++ take 16 edges
+
+abbrev plain : List ℕ
+plain = with 76 0x28 (with 77 0xe0 bright)
 
 -- 80 bytes are a half; columns 60 to 64, where the cell of position 3 is, are the lower four bits of byte 7 and the highest of byte 8 of a row
 abbrev picturesOnTwo : List (Painting × (Painted × List ℕ))
 picturesOnTwo =
-    ((panelOn 35 (regs (draws 25) 6 0 1 1 1 1 8 5) 900 Empty 800, font, true, replicate 160 0xa5), (painting.Lit 617, both))
+    ((paneWith 5 (draws 22) 11 1 0 1 doubled, font, true, replicate 160 0xa5), (painting.Lit 640, twoLines plain block))
     -- the cursor on line 1 at position 3 is in row 7, and on line 0 in row 15
     ∷ ((paneWith 15 (draws 0x13) 0 1 1 0 (replicate 32 0x20), blankFont, true, replicate 160 0xa5), (painting.Lit 5, none 77 ++ (0x0f ∷ 0x80 ∷ none 81)))
     ∷ ((paneWith 15 (shows 0x03) 0 1 1 0 (replicate 32 0x20), blankFont, true, replicate 160 0xa5), (painting.Lit 5, none 157 ++ (0x0f ∷ 0x80 ∷ none 1)))
