@@ -1,7 +1,7 @@
 use Rattle.desk.specs.laws.PageLaws.{puts-then}
 use borrow.Author.Needs.{needs}
-use Rattle.report.proofs.clock.put_within.Statement.{statement}
-use Rattle.report.proofs.clock.put_within.Tie as tie
+use Rattle.desk.proofs.clock.put_within.Statement.{statement}
+use Rattle.desk.proofs.clock.put_within.Tie as tie
 
 slice-aggregate-put : tie.Need-slice-aggregate-put
 slice-aggregate-put c = search needs

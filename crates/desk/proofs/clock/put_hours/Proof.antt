@@ -1,9 +1,9 @@
 use mathlib.Core.Path.{refl}
 use borrow.Author.Needs.{needs}
-use Rattle.report.specs.Clock.{twoOf}
-use Rattle.report.specs.Clock.Hours.{two, more}
-use Rattle.report.proofs.clock.put_hours.Statement.{statement}
-use Rattle.report.proofs.clock.put_hours.Tie as tie
+use Rattle.desk.specs.Clock.{twoOf}
+use Rattle.desk.specs.Clock.Hours.{two, more}
+use Rattle.desk.proofs.clock.put_hours.Statement.{statement}
+use Rattle.desk.proofs.clock.put_hours.Tie as tie
 
 put-two-requires : tie.Need-put-two-requires
 put-two-requires c κs = search needs

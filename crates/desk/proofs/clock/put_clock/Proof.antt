@@ -1,10 +1,10 @@
 use mathlib.Core.Path.{refl}
 use mathlib.Core.List.{_++_}
 use borrow.Author.Needs.{needs}
-use Rattle.report.specs.Clock.{withinHour}
+use Rattle.desk.specs.Clock.{withinHour}
 use Rattle.desk.specs.laws.PageLaws.{puts-then}
-use Rattle.report.proofs.clock.put_clock.Statement.{statement}
-use Rattle.report.proofs.clock.put_clock.Tie as tie
+use Rattle.desk.proofs.clock.put_clock.Statement.{statement}
+use Rattle.desk.proofs.clock.put_clock.Tie as tie
 
 put-hours-requires : tie.Need-put-hours-requires
 put-hours-requires c κs = search needs

@@ -1,8 +1,8 @@
 // Numbers and clocks, put on a page. Each function answers where the next byte goes.
 ghost use Rattle.desk.specs.Page.{Puts};
-ghost use Rattle.report.specs.Clock.{Clock, Decimal, Hours, PutsSome, twoOf, withinHour};
-use desk::page::PAGE;
-use desk::page::put;
+ghost use Rattle.desk.specs.Clock.{Clock, Decimal, Hours, PutsSome, twoOf, withinHour};
+use crate::page::PAGE;
+use crate::page::put;
 
 // Times are in millionths of a second.
 const SECOND: u64 = 1000000;
@@ -15,7 +15,7 @@ const HOUR: u64 = 60 * MINUTE;
 const DIGITS: usize = 20;
 
 // A number in decimal.
-pub(crate) fn put_number(page: &mut [u8; PAGE], at: usize, n: u64) -> usize
+pub fn put_number(page: &mut [u8; PAGE], at: usize, n: u64) -> usize
     ensures { λ r. ⌜ PutsSome (Decimal n) (now (page .entry)) at (now (page .exit)) r ⌝ }
 {
     let mut digits = [0u8; DIGITS];
@@ -57,7 +57,7 @@ fn put_within(page: &mut [u8; PAGE], at: usize, time: u64) -> usize
 }
 
 // A time as hours, minutes, seconds and millionths.
-pub(crate) fn put_clock(page: &mut [u8; PAGE], at: usize, time: u64) -> usize
+pub fn put_clock(page: &mut [u8; PAGE], at: usize, time: u64) -> usize
     ensures { λ r. ⌜ PutsSome (Clock time) (now (page .entry)) at (now (page .exit)) r ⌝ }
 {
     let a = put_hours(page, at, time / HOUR);

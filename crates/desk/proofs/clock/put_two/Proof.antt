@@ -1,6 +1,6 @@
 use borrow.Author.Needs.{needs}
-use Rattle.report.proofs.clock.put_two.Statement.{statement}
-use Rattle.report.proofs.clock.put_two.Tie as tie
+use Rattle.desk.proofs.clock.put_two.Statement.{statement}
+use Rattle.desk.proofs.clock.put_two.Tie as tie
 
 cast-digit : tie.Need-cast-digit
 cast-digit c = search needs
