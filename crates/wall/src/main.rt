@@ -1,4 +1,5 @@
 // What the glass showed: reads a log on standard input, and draws the panel as it then stands.
+mod apart;
 mod bitmap;
 mod codes;
 mod draw;
@@ -136,6 +137,7 @@ fn show_all(places: [usize; GROUPS], told: Told, until: u64, font: Bytes) {
     let wanted = Wanted {
         bitmap: places[PBM] != 0,
         marks: places[ASCII] != 0,
+        apart: places[APART] != 0,
         dark: places[DARK] != 0,
         upright: places[UPRIGHT] != 0,
     };
