@@ -1,3 +1,4 @@
+pub mod Apart
 pub mod Text
 pub mod Draw
 pub mod Watch

@@ -1,3 +1,4 @@
+pub mod Apart
 pub mod Bitmap
 pub mod Watch
 pub mod Lines

@@ -1,2 +1,3 @@
+pub mod ApartLaws
 pub mod DrawLaws
 pub mod WrittenLaws

@@ -20,10 +20,12 @@ use picture::frame::frame_size;
 use picture::mode::upright;
 use picture::paint::paint;
 
-// How the glass is shown: as a bitmap or drawn, by marks or by blocks, with the blink dark or light, in mode A or as it is.
+// How the glass is shown: as a bitmap or drawn, by marks or by blocks, its cells apart or not, with the blink dark or light,
+// in mode A or as it is.
 pub(crate) struct Wanted {
     pub bitmap: bool,
     pub marks: bool,
+    pub apart: bool,
     pub dark: bool,
     pub upright: bool,
 }
@@ -63,7 +65,7 @@ fn show_lent(panel: Panel, font: Bytes, wanted: Wanted, frame: &mut [u8]) {
     if wanted.bitmap {
         write_bitmap(registers.chip, frame);
     } else {
-        draw(registers.chip, frame, !wanted.marks);
+        draw(registers.chip, frame, !wanted.marks, wanted.apart);
         show_beneath(panel);
     }
 }
