@@ -2,3 +2,4 @@ pub mod Apart
 pub mod Bitmap
 pub mod Watch
 pub mod Lines
+pub mod Look

@@ -1,3 +1,4 @@
 pub mod ApartLaws
 pub mod DrawLaws
+pub mod LookLaws
 pub mod WrittenLaws

@@ -5,6 +5,7 @@ mod codes;
 mod draw;
 mod font;
 mod glass;
+mod look;
 mod watch;
 mod written;
 
