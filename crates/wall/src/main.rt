@@ -5,6 +5,7 @@ mod codes;
 mod draw;
 mod font;
 mod glass;
+mod svg;
 mod watch;
 mod written;
 
@@ -136,6 +137,7 @@ fn show_all(places: [usize; GROUPS], told: Told, until: u64, font: Bytes) {
     let panel = run.panel;
     let wanted = Wanted {
         bitmap: places[PBM] != 0,
+        svg: places[SVG] != 0,
         marks: places[ASCII] != 0,
         apart: places[APART] != 0,
         dark: places[DARK] != 0,
