@@ -2,6 +2,7 @@ pub mod Apart
 pub mod Text
 pub mod Draw
 pub mod Look
+pub mod Svg
 pub mod Watch
 pub mod Written
 pub mod engine

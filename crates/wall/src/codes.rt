@@ -23,7 +23,7 @@ fn character(code: u8) -> u8
     code
 }
 
-fn characters(codes: [u8; POSITIONS]) -> [u8; POSITIONS]
+pub(crate) fn characters(codes: [u8; POSITIONS]) -> [u8; POSITIONS]
     ensures { λ r. ⌜ r ≡ textOf codes ⌝ }
 {
     let mut characters = [0; POSITIONS];

@@ -9,6 +9,7 @@ use crate::bitmap::write_bitmap;
 use crate::codes::show_cursor;
 use crate::codes::show_lines;
 use crate::draw::draw;
+use crate::svg::write_svg;
 use crate::written::show_written;
 use chip::sizes::lines;
 use desk::bytes::Bytes;
@@ -20,10 +21,11 @@ use picture::frame::frame_size;
 use picture::mode::upright;
 use picture::paint::paint;
 
-// How the glass is shown: as a bitmap or drawn, by marks or by blocks, its cells apart or not, with the blink dark or light,
-// in mode A or as it is.
+// How the glass is shown: as a bitmap, for browsers or drawn, by marks or by blocks, its cells apart or not, with the blink
+// dark or light, in mode A or as it is.
 pub(crate) struct Wanted {
     pub bitmap: bool,
+    pub svg: bool,
     pub marks: bool,
     pub apart: bool,
     pub dark: bool,
@@ -64,6 +66,8 @@ fn show_lent(panel: Panel, font: Bytes, wanted: Wanted, frame: &mut [u8]) {
     painted(drawn(panel, wanted.upright), font, wanted.dark, frame);
     if wanted.bitmap {
         write_bitmap(registers.chip, frame);
+    } else if wanted.svg {
+        write_svg(sheet, frame);
     } else {
         draw(registers.chip, frame, !wanted.marks, wanted.apart);
         show_beneath(panel);

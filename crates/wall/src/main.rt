@@ -6,6 +6,7 @@ mod draw;
 mod font;
 mod glass;
 mod look;
+mod svg;
 mod watch;
 mod written;
 
@@ -137,6 +138,7 @@ fn show_all(places: [usize; GROUPS], told: Told, until: u64, font: Bytes) {
     let panel = run.panel;
     let wanted = Wanted {
         bitmap: places[PBM] != 0,
+        svg: places[SVG] != 0,
         marks: places[ASCII] != 0,
         apart: places[APART] != 0,
         dark: places[DARK] != 0,
