@@ -1,7 +1,9 @@
 pub mod Apart
+pub mod Beneath
 pub mod Text
 pub mod Draw
 pub mod Look
+pub mod Status
 pub mod Svg
 pub mod Watch
 pub mod Written

@@ -11,7 +11,6 @@ use crate::apart::lit_drawn;
 use crate::apart::rows_drawn;
 use desk::page::PAGE;
 use desk::page::put;
-use desk::page::write_out;
 
 // A dot as a mark, which is a space where it is blank.
 fn mark(blank: bool, lit: bool) -> u8
@@ -142,10 +141,4 @@ pub(crate) fn put_drawing(
     let first = put_edge(page, at, apart);
     let last = put_lines(page, first, chip, frame, pairs, apart);
     put_edge(page, last, apart)
-}
-
-pub(crate) fn draw(chip: u8, frame: &[u8], pairs: bool, apart: bool) {
-    let mut page = [0u8; PAGE];
-    let end = put_drawing(&mut page, 0, chip, frame, pairs, apart);
-    write_out(&page, end);
 }

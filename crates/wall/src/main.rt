@@ -5,7 +5,9 @@ mod codes;
 mod draw;
 mod font;
 mod glass;
+mod live;
 mod look;
+mod status;
 mod svg;
 mod watch;
 mod written;
@@ -23,6 +25,7 @@ use desk::told::Told;
 use desk::told::told_at;
 use glass::Wanted;
 use glass::show_glass;
+use live::live;
 use mirror::panel::Panel;
 use mirror::stream::Stream;
 use picture::pattern::FONT_SIZE;
@@ -124,27 +127,42 @@ fn font_at(place: usize) -> Bytes {
     Bytes { ok: false, ..file }
 }
 
+// The form in which the glass is shown. Live, the cells stand apart.
+fn wanted_of(places: [usize; GROUPS]) -> Wanted {
+    Wanted {
+        bitmap: places[PBM] != 0,
+        svg: places[SVG] != 0,
+        marks: places[ASCII] != 0,
+        apart: (places[APART] != 0) | (places[LIVE] != 0),
+        dark: places[DARK] != 0,
+        upright: places[UPRIGHT] != 0,
+    }
+}
+
 // Watches the log up to the time, then shows what the glass did.
-fn show_all(places: [usize; GROUPS], told: Told, until: u64, font: Bytes) {
+fn show_once(start: Stream, until: u64, font: Bytes, wanted: Wanted) {
     let mut block = [0; BLOCK];
-    let times = told.times;
-    let fresh = Panel::fresh(told.chip, times.reset, times.long, times.short);
-    let seen = watch_all(Stream::start(fresh), until, &mut block);
+    let seen = watch_all(start, until, &mut block);
     if seen.failed {
         return;
     }
     let stream = seen.stream;
     let run = stream.end();
     let panel = run.panel;
-    let wanted = Wanted {
-        bitmap: places[PBM] != 0,
-        svg: places[SVG] != 0,
-        marks: places[ASCII] != 0,
-        apart: places[APART] != 0,
-        dark: places[DARK] != 0,
-        upright: places[UPRIGHT] != 0,
-    };
     show_glass(panel, font, wanted);
+}
+
+// Shows the glass as the log comes, or once.
+fn show_all(places: [usize; GROUPS], told: Told, until: u64, font: Bytes) {
+    let times = told.times;
+    let fresh = Panel::fresh(told.chip, times.reset, times.long, times.short);
+    let start = Stream::start(fresh);
+    let wanted = wanted_of(places);
+    if places[LIVE] != 0 {
+        live(start, font, wanted);
+    } else {
+        show_once(start, until, font, wanted);
+    }
 }
 
 // What was asked for.
