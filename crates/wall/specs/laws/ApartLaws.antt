@@ -5,7 +5,7 @@ use mathlib.Core.Bool.{Bool, true, false}
 use native.Mathlib.Nat.{div-add-mod', mod-lt, mul-add, mul-le-mul-right}
 use native.Mathlib.Omega.{arith}
 use borrow.Author.Tests.{leb-false, lt-leb}
-use Rattle.dots.specs.laws.PartsLaws.{part-back, part-of, place-back}
+use Rattle.dots.specs.laws.PartsLaws.{part-back, part-of, place-back, place-in}
 use Rattle.chip.specs.Sizes.{linesOf, mostLines}
 use Rattle.chip.specs.laws.SizesLaws.{lines-few}
 use Rattle.picture.specs.Pattern.{tall}
@@ -52,3 +52,10 @@ module _ (g n : ℕ) (some : 0 < n) where
       let p = part-of n m d l in
       let q : d / n ≤ m - 1 = omega (arith, p) in
       omega (arith, mul-add (d / n) n g, div-add-mod' d n, mul-le-mul-right {m = d / n} {n = m - 1} g q)
+
+  -- and what is shown there, outside the gaps, are no other dots
+  pub shown-within : (m i : ℕ) → i < spanOf g n m → isGap g n i ≡ false → dotAt g n i < m * n
+  shown-within m i l o =
+      let e : m - 1 ≤ m = omega arith in
+      let k : i < m * (n + g) = omega (arith, mul-add m n g, mul-le-mul-right {m = m - 1} {n = m} g e) in
+      place-in n m (i / (n + g)) (i % (n + g)) (part-of (n + g) m i k) (leb-false n (i % (n + g)) o)
