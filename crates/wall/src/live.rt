@@ -27,7 +27,7 @@ use mirror::panel::Panel;
 use mirror::stream::Stream;
 
 // What was read so far: the stream, and the answer to the last transfer.
-pub struct Heard {
+pub struct Listened {
     stream: Stream,
     last: Last,
 }
@@ -47,7 +47,7 @@ pub struct Way {
 }
 
 // Every record that a part makes whole.
-fn hear(start: Heard, part: &[u8]) -> Heard {
+fn hear(start: Listened, part: &[u8]) -> Listened {
     let mut stream = start.stream;
     let mut last = start.last;
     let mut at: usize = 0;
@@ -64,7 +64,7 @@ fn hear(start: Heard, part: &[u8]) -> Heard {
             break;
         }
     }
-    Heard { stream, last }
+    Listened { stream, last }
 }
 
 fn drawn_of(panel: Panel, way: Way) -> Drawn {
@@ -84,7 +84,7 @@ fn same_pages(a: [u8; PAGE], end: usize, b: [u8; PAGE], other: usize) -> bool {
     same(&a[..m], &b[..n])
 }
 
-fn put_status(page: &mut [u8; PAGE], at: usize, heard: Heard) -> usize {
+fn put_status(page: &mut [u8; PAGE], at: usize, heard: Listened) -> usize {
     let last = heard.last;
     let stream = heard.stream;
     let run = stream.end();
@@ -168,7 +168,7 @@ fn write_lines(
     }
 }
 
-fn write_picture(drawn: Drawn, heard: Heard, terminal: bool, first: bool, changed: bool) {
+fn write_picture(drawn: Drawn, heard: Listened, terminal: bool, first: bool, changed: bool) {
     let mut page = drawn.page;
     let picture = drawn.end;
     let end = put_status(&mut page, picture, heard);
@@ -186,7 +186,7 @@ fn drawn_after(before: Drawn, panel: Panel, way: Way) -> Drawn {
 }
 
 // The next picture, written where it is another one.
-fn draw_again(before: Drawn, heard: Heard, way: Way) -> Drawn {
+fn draw_again(before: Drawn, heard: Listened, way: Way) -> Drawn {
     let stream = heard.stream;
     let drawn = drawn_after(before, stream.panel(), way);
     let page = drawn.page;
@@ -197,7 +197,7 @@ fn draw_again(before: Drawn, heard: Heard, way: Way) -> Drawn {
 }
 
 // The rest of standard input, after the first picture.
-fn draw_rest(first: Input, heard: Heard, drawn: Drawn, way: Way, block: &mut [u8]) {
+fn draw_rest(first: Input, heard: Listened, drawn: Drawn, way: Way, block: &mut [u8]) {
     let mut input = first;
     let mut heard = heard;
     let mut drawn = drawn;
@@ -225,7 +225,7 @@ pub(crate) fn live(start: Stream, font: Bytes, wanted: Wanted) {
         return;
     }
     let n = held(&block, input.len);
-    let begun = Heard {
+    let begun = Listened {
         stream: start,
         last: Last::Nothing,
     };
