@@ -2,14 +2,14 @@
 use Prim.Native.Nat.{ℕ, _/_, _%_}
 use mathlib.Core.Path.{_≡_, refl, sym, ap, _∙_}
 use mathlib.Core.Bool.{Bool, true, false, not, _&&_, _||_, Bool·beq, false≢true}
-use mathlib.Core.List.{List}
+use mathlib.Core.List.{List, _++_}
 use mathlib.Core.Option.{none, some}
 use borrow.Author.Tests.{eq-eqb, eqb-true}
 use lib.Dec.{eqb}
 use lib.ListN.{length}
 use Rattle.laws.specs.Pick.{pick}
 use Rattle.dots.specs.Landing.{Landing, dotsFrame}
-use Rattle.chip.specs.Sizes.{displaySize}
+use Rattle.chip.specs.Sizes.{displaySize, linesOf}
 use Rattle.chip.specs.Written.{writtenIn}
 use Rattle.chip.specs.Address.{display}
 use Rattle.chip.specs.declared.address.Address.the-variants.{Display}
@@ -27,7 +27,8 @@ use Rattle.picture.specs.Paint.{frameAfter}
 use Rattle.picture.specs.declared.cursor.Cursor.{Cursor}
 use Rattle.picture.specs.declared.cursor.Cursor.the-variants.{Off, At}
 use Rattle.picture.specs.laws.ModeLaws.{upright-mode, upright-sound}
-use Rattle.wall.specs.Draw.{drawnPanel}
+use Rattle.wall.specs.Beneath.{cursorLine, pictureBytes, shownLines}
+use Rattle.wall.specs.Draw.{drawingBytes, drawnPanel}
 use Rattle.wall.specs.Look.{Alike, lookOf}
 use Rattle.wall.specs.engine.Look.{sameBits, samePlace}
 use Rattle.wall.specs.Written.{writtenBytes, writtenLine}
@@ -129,6 +130,20 @@ module _ (p q : Panel) (P : soundPanel p ≡ true) (Q : soundPanel q ≡ true) (
 
       walked : (p : Panel) → soundPanel p ≡ true → writtenLine p ≡ writtenBytes (writtenIn displaySize (p .sheet .display))
       walked p h = ap (λ (b : Bool). writtenBytes (picked b p .bits)) h
+
+  -- so the same picture
+  pub same-picture : (apart pairs upright dark : Bool) (font frame : List ℕ)
+      → pictureBytes apart pairs upright dark font p frame ≡ pictureBytes apart pairs upright dark font q frame
+  same-picture apart pairs upright dark font frame =
+      ap (λ (k : Look). made k (frameAfter (drawnPanel upright p) font dark frame) (writtenLine p)) e
+      ∙ ap (λ (f : List ℕ). made (lookOf (q .sheet)) f (writtenLine p)) (same-frame upright font dark frame)
+      ∙ ap (λ (w : List ℕ). made (lookOf (q .sheet)) (frameAfter (drawnPanel upright q) font dark frame) w) same-written
+    where
+      made : Look → List ℕ → List ℕ → List ℕ
+      made k f w =
+          let n = linesOf (k .chip) in
+          drawingBytes apart (k .chip) pairs f
+          ++ (shownLines true (sheetOf k) n ++ (shownLines false (sheetOf k) n ++ (cursorLine n (k .place) ++ w)))
 
 -- looks that are equal field by field are equal
 pub same-look : (a b : Look) → a .chip ≡ b .chip → a .shift ≡ b .shift → a .on ≡ b .on → a .cursor ≡ b .cursor → a .blink ≡ b .blink →
