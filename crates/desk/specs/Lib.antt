@@ -1,5 +1,6 @@
 pub mod Bytes
 pub mod Chips
+pub mod Clock
 pub mod Number
 pub mod Page
 pub mod Reads

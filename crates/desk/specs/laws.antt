@@ -1,3 +1,4 @@
 pub mod ChipsLaws
+pub mod ClockLaws
 pub mod NumberLaws
 pub mod PageLaws

@@ -7,7 +7,7 @@ use check::same;
 use libc::STDERR_FILENO;
 
 // The most groups that a program may take.
-pub const GROUPS: usize = 8;
+pub const GROUPS: usize = 11;
 
 // Whether the program is to go on; the place of the next argument; and of each group that it takes, in their order, the
 // place after its name, 0 for one that was not given.

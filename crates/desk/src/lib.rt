@@ -3,6 +3,7 @@
 pub mod arguments;
 pub mod bytes;
 pub mod chips;
+pub mod clock;
 pub mod input;
 pub mod number;
 pub mod page;

@@ -7,12 +7,6 @@ pub fn show(bytes: &[u8]) {
     io::write_all(STDOUT_FILENO, bytes);
 }
 
-// Writes a line.
-pub fn say(line: &[u8]) {
-    show(line);
-    show(b"\n");
-}
-
 // Writes a number in decimal, with the label in front of it.
 pub fn show_number(label: &[u8], n: u64) {
     show(label);

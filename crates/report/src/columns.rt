@@ -1,10 +1,10 @@
 // A line of the report: docs/REPORT.md has its columns.
-use crate::clock::put_clock;
-use crate::clock::put_number;
 use account::columns::Line;
 use account::columns::Meaning;
 use account::columns::Shown;
 use account::columns::What;
+use desk::clock::put_clock;
+use desk::clock::put_number;
 use desk::page::PAGE;
 use desk::page::put;
 use log::flaw::Flaw;

@@ -1,7 +1,7 @@
 // The summary: the counts of the run, and what was written again.
-use crate::clock::put_number;
 use crate::columns::put_time;
 use account::again::Found;
+use desk::clock::put_number;
 use desk::page::PAGE;
 use desk::page::put;
 use mirror::stream::Run;

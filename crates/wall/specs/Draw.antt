@@ -1,5 +1,5 @@
--- The drawing and the bitmap, made of the dots of a chip's frame (docs/WALL.md, "The mode", "The print").
-use Prim.Native.Nat.{ℕ, zero, suc, _+_, _*_, _/_, _%_}
+-- The drawing and the bitmap, made of the dots of a chip's frame (docs/WALL.md, "The mode", "The print", "Cells apart").
+use Prim.Native.Nat.{ℕ, zero, suc, _+_, _-_, _*_, _/_}
 use mathlib.Core.Bool.{Bool, _&&_}
 use mathlib.Core.List.{List, [], _∷_, _++_}
 use Rattle.laws.specs.Pick.{pick}
@@ -7,7 +7,8 @@ use Rattle.laws.specs.Bit.{one}
 use Rattle.dots.specs.Table.{table}
 use Rattle.mirror.specs.declared.panel.Panel.{Panel}
 use Rattle.picture.specs.Mode.{uprightOf}
-use Rattle.picture.specs.Frame.{glass, bytesAcross, litAt}
+use Rattle.picture.specs.Frame.{bytesAcross, litAt}
+use Rattle.wall.specs.Apart.{blankAt, columnsDrawn, litDrawn, rowsDrawn}
 
 -- the panel that is drawn: with `upright` as it would be in mode A, and without it as it is (docs/WALL.md, "The mode")
 abbrev pub drawnPanel : Bool → Panel → Panel
@@ -23,9 +24,9 @@ eightOf chip f r x =
 abbrev pub bitmapRow : ℕ → List ℕ → ℕ → List ℕ
 bitmapRow chip f r = table (λ i. eightOf chip f r (8 * i)) bytesAcross
 
--- a dot: # where it is lit, and a point where it is not
-abbrev pub markOf : Bool → ℕ
-markOf lit = pick lit 35 46
+-- a dot: # where it is lit, and a point where it is not; a space where it is blank
+abbrev pub markOf : Bool → Bool → ℕ
+markOf blank lit = pick blank 32 (pick lit 35 46)
 
 -- two dots, one above the other: a full block of the terminal, its upper half, its lower half, or a space
 abbrev pub pairOf : Bool → Bool → List ℕ
@@ -42,10 +43,31 @@ strung h (suc n) = strung h n ++ h n
 abbrev pub barred : List ℕ → List ℕ
 barred s = (124 ∷ s) ++ (124 ∷ 10 ∷ [])
 
+-- a line shows a row, or two
+abbrev pub rowsShown : Bool → ℕ
+rowsShown pairs = pick pairs 2 1
+
 -- what a line shows of column x: a mark for the dot of row r, or a block for it and the one below it
-abbrev pub columnBytes : ℕ → Bool → List ℕ → ℕ → ℕ → List ℕ
-columnBytes chip pairs f r x = pick pairs (pairOf (litAt chip f r x) (litAt chip f (r + 1) x)) (markOf (litAt chip f r x) ∷ [])
+abbrev pub columnBytes : Bool → ℕ → Bool → List ℕ → ℕ → ℕ → List ℕ
+columnBytes apart chip pairs f r x =
+    pick pairs (pairOf (litDrawn apart chip f r x) (litDrawn apart chip f (r + 1) x)) (markOf (blankAt apart r x) (litDrawn apart chip f r x) ∷ [])
 
 -- a line: the columns from the left
-abbrev pub lineBytes : ℕ → Bool → List ℕ → ℕ → List ℕ
-lineBytes chip pairs f r = barred (strung (columnBytes chip pairs f r) (glass chip .cols))
+abbrev pub lineBytes : Bool → ℕ → Bool → List ℕ → ℕ → List ℕ
+lineBytes apart chip pairs f r = barred (strung (columnBytes apart chip pairs f r) (columnsDrawn apart))
+
+-- how many lines there are; the last one may show a row above nothing
+abbrev pub linesDrawn : Bool → ℕ → Bool → ℕ
+linesDrawn apart chip pairs = (rowsDrawn apart chip + (rowsShown pairs - 1)) / rowsShown pairs
+
+-- the lines from the top
+abbrev pub linesBytes : Bool → ℕ → Bool → List ℕ → List ℕ
+linesBytes apart chip pairs f = strung (λ i. lineBytes apart chip pairs f (i * rowsShown pairs)) (linesDrawn apart chip pairs)
+
+-- the line above and beneath them: a hyphen for each column
+abbrev pub edgeBytes : Bool → List ℕ
+edgeBytes apart = (43 ∷ strung (λ x. 45 ∷ []) (columnsDrawn apart)) ++ (43 ∷ 10 ∷ [])
+
+-- the drawing
+abbrev pub drawingBytes : Bool → ℕ → Bool → List ℕ → List ℕ
+drawingBytes apart chip pairs f = (edgeBytes apart ++ linesBytes apart chip pairs f) ++ edgeBytes apart

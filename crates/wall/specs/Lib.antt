@@ -1,5 +1,10 @@
+pub mod Apart
+pub mod Beneath
 pub mod Text
 pub mod Draw
+pub mod Look
+pub mod Status
+pub mod Svg
 pub mod Watch
 pub mod Written
 pub mod engine

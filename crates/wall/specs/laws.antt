@@ -1,2 +1,5 @@
+pub mod ApartLaws
 pub mod DrawLaws
+pub mod LookLaws
+pub mod StatusLaws
 pub mod WrittenLaws

@@ -2,19 +2,23 @@
 ghost use Prim.Native.Nat.{_<_};
 ghost use mathlib.Core.Path.{_≡_};
 ghost use Rattle.desk.specs.Page.{Puts};
-ghost use Rattle.picture.specs.Frame.{glass};
-ghost use Rattle.wall.specs.Draw.{columnBytes, lineBytes, markOf, pairOf};
-ghost use Rattle.wall.specs.engine.Lines.{RowsShown};
+ghost use Rattle.wall.specs.Apart.{rowsDrawn};
+ghost use Rattle.wall.specs.Draw.{columnBytes, drawingBytes, edgeBytes, lineBytes, linesBytes, markOf, pairOf};
+ghost use Rattle.wall.specs.engine.Lines.{LinesDrawn, RowsShown};
+use crate::apart::blank_at;
+use crate::apart::columns_drawn;
+use crate::apart::lit_drawn;
+use crate::apart::rows_drawn;
 use desk::page::PAGE;
 use desk::page::put;
-use desk::page::write_out;
-use picture::frame::COLUMNS;
-use picture::frame::lit_at;
-use picture::frame::rows;
 
-fn mark(lit: bool) -> u8
-    ensures { λ r. ⌜ r ≡ markOf lit ⌝ }
+// A dot as a mark, which is a space where it is blank.
+fn mark(blank: bool, lit: bool) -> u8
+    ensures { λ r. ⌜ r ≡ markOf blank lit ⌝ }
 {
+    if blank {
+        return b' ';
+    }
     if lit { b'#' } else { b'.' }
 }
 
@@ -43,16 +47,17 @@ fn put_column(
     row: usize,
     column: usize,
     pairs: bool,
+    apart: bool,
 ) -> usize
-    requires { ⌜ row < glass chip .rows ⌝ }
-    ensures { λ r. ⌜ Puts (columnBytes chip pairs (now (frame .entry)) row column) (now (page .entry)) at (now (page .exit)) r ⌝ }
+    requires { ⌜ row < rowsDrawn apart chip ⌝ }
+    ensures { λ r. ⌜ Puts (columnBytes apart chip pairs (now (frame .entry)) row column) (now (page .entry)) at (now (page .exit)) r ⌝ }
 {
-    let upper = lit_at(chip, frame, row, column);
+    let upper = lit_drawn(apart, chip, frame, row, column);
     if pairs {
-        let lower = lit_at(chip, frame, row + 1, column);
+        let lower = lit_drawn(apart, chip, frame, row + 1, column);
         return put_pair(page, at, upper, lower);
     }
-    put(page, at, &[mark(upper)])
+    put(page, at, &[mark(blank_at(apart, row, column), upper)])
 }
 
 // A line, between its two sides.
@@ -63,23 +68,28 @@ fn put_line(
     frame: &[u8],
     row: usize,
     pairs: bool,
+    apart: bool,
 ) -> usize
-    requires { ⌜ row < glass chip .rows ⌝ }
-    ensures { λ r. ⌜ Puts (lineBytes chip pairs (now (frame .entry)) row) (now (page .entry)) at (now (page .exit)) r ⌝ }
+    requires { ⌜ row < rowsDrawn apart chip ⌝ }
+    ensures { λ r. ⌜ Puts (lineBytes apart chip pairs (now (frame .entry)) row) (now (page .entry)) at (now (page .exit)) r ⌝ }
 {
+    let columns = columns_drawn(apart);
     let mut end = put(page, at, b"|");
-    for column in 0..COLUMNS {
-        end = put_column(page, end, chip, frame, row, column, pairs);
+    for column in 0..columns {
+        end = put_column(page, end, chip, frame, row, column, pairs, apart);
     }
     put(page, end, b"|\n")
 }
 
-fn put_edge(page: &mut [u8; PAGE], at: usize) -> usize {
-    put(
-        page,
-        at,
-        b"+--------------------------------------------------------------------------------+\n",
-    )
+fn put_edge(page: &mut [u8; PAGE], at: usize, apart: bool) -> usize
+    ensures { λ r. ⌜ Puts (edgeBytes apart) (now (page .entry)) at (now (page .exit)) r ⌝ }
+{
+    let columns = columns_drawn(apart);
+    let mut end = put(page, at, b"+");
+    for column in 0..columns {
+        end = put(page, end, b"-");
+    }
+    put(page, end, b"+\n")
 }
 
 // How many rows of dots a line shows.
@@ -89,17 +99,46 @@ fn rows_shown(pairs: bool) -> usize
     if pairs { 2 } else { 1 }
 }
 
-// One line for each row of dots, or for each two.
-pub(crate) fn draw(chip: u8, frame: &[u8], pairs: bool) {
-    let mut page = [0u8; PAGE];
-    let mut end = put_edge(&mut page, 0);
+// How many lines there are; the last one may show a row above nothing.
+fn lines_drawn(apart: bool, chip: u8, pairs: bool) -> usize
+    ensures { λ r. ⌜ LinesDrawn apart chip pairs r ⌝ }
+{
     let shown = rows_shown(pairs);
-    let high = rows(chip);
-    let mut row = 0;
-    while row < high {
-        end = put_line(&mut page, end, chip, frame, row, pairs);
-        row += shown;
+    (rows_drawn(apart, chip) + (shown - 1)) / shown
+}
+
+// One line for each row of dots, or for each two.
+fn put_lines(
+    page: &mut [u8; PAGE],
+    at: usize,
+    chip: u8,
+    frame: &[u8],
+    pairs: bool,
+    apart: bool,
+) -> usize
+    ensures { λ r. ⌜ Puts (linesBytes apart chip pairs (now (frame .entry))) (now (page .entry)) at (now (page .exit)) r ⌝ }
+{
+    let shown = rows_shown(pairs);
+    let lines = lines_drawn(apart, chip, pairs);
+    let mut end = at;
+    for line in 0..lines {
+        end = put_line(page, end, chip, frame, line * shown, pairs, apart);
     }
-    end = put_edge(&mut page, end);
-    write_out(&page, end);
+    end
+}
+
+// The drawing: its lines between two edges.
+pub(crate) fn put_drawing(
+    page: &mut [u8; PAGE],
+    at: usize,
+    chip: u8,
+    frame: &[u8],
+    pairs: bool,
+    apart: bool,
+) -> usize
+    ensures { λ r. ⌜ Puts (drawingBytes apart chip pairs (now (frame .entry))) (now (page .entry)) at (now (page .exit)) r ⌝ }
+{
+    let first = put_edge(page, at, apart);
+    let last = put_lines(page, first, chip, frame, pairs, apart);
+    put_edge(page, last, apart)
 }

@@ -33,7 +33,7 @@ fn later(next: Next, until: u64) -> bool
 }
 
 // Whether a record was answered.
-fn answered(next: Next) -> bool
+pub(crate) fn answered(next: Next) -> bool
     ensures { λ r. ⌜ r ≡ isAnswered (next .reply) ⌝ }
 {
     let reply = next.reply;

@@ -10,7 +10,6 @@ ghost use Rattle.wall.specs.Written.{placeBytes, placesBytes, writtenLin
 use chip::sizes::DISPLAY_SIZE;
 use desk::page::PAGE;
 use desk::page::put;
-use desk::page::write_out;
 use mirror::panel::Panel;
 use mirror::written::PlacesWritten;
 
@@ -57,17 +56,11 @@ fn bits_of(panel: Panel) -> u32
     }
 }
 
-fn put_written(page: &mut [u8; PAGE], at: usize, panel: Panel) -> usize
+pub(crate) fn put_written(page: &mut [u8; PAGE], at: usize, panel: Panel) -> usize
     ensures { λ r. ⌜ Puts (writtenLine panel) (now (page .entry)) at (now (page .exit)) r ⌝ }
 {
     let bits = bits_of(panel);
     let start = put(page, at, b"written");
     let end = put_places(page, start, bits);
     put(page, end, b"\n")
-}
-
-pub(crate) fn show_written(panel: Panel) {
-    let mut page = [0u8; PAGE];
-    let end = put_written(&mut page, 0, panel);
-    write_out(&page, end);
 }

@@ -10,9 +10,12 @@ use prog.Routine.{Routine}
 use ghost.Atoms.{Atoms}
 use contract.Monad.{Fun}
 use denote.Ref.{now}
+use Rattle.desk.specs.laws.ClockLaws.{clock-one, decimal-one, some-page, some-end}
 use Rattle.desk.specs.laws.PageLaws.{puts-page, puts-end}
 use Rattle.desk.proofs.bytes.held as bytes·held
 use Rattle.desk.proofs.chips.chip_of as chips·chip
+use Rattle.desk.proofs.clock.put_clock as clock·clock
+use Rattle.desk.proofs.clock.put_number as clock·number
 use Rattle.desk.proofs.input.Input.start as input·start
 use Rattle.desk.proofs.number.number_of as number·of
 use Rattle.desk.proofs.page.put as page·put
@@ -27,6 +30,24 @@ module _ {M : Type 1} (𝓤 : URA M) (H : Heap 𝓤) (A : Atoms 𝓤) (mem : Mem
   -- desk::chips::chip_of: r ≡ chipNamed (now (name .entry))
   pub chip-of : DeterminesAnswer 𝓤 chips·chip.ended (chips·chip.clauses 𝓤 H A mem run)
   chip-of = equation 𝓤 _ _ _ (λ κs a g r e. refl)
+
+  -- desk::clock::put_clock: PutsSome (Clock time) (now (page .entry)) at (now (page .exit)) r
+  pub put-clock : Determines 𝓤 clock·clock.ended (clock·clock.clauses 𝓤 H A mem run) {L = List ℕ} (λ κs e. now (e .0))
+  put-clock =
+      record {
+        Says = _;
+        stated = λ κs a g r e. refl;
+        one = λ κs a r s e f p q. (some-end _ (clock-one _) _ _ _ _ _ _ p q, some-page _ (clock-one _) _ _ _ _ _ _ p q);
+      }
+
+  -- desk::clock::put_number: PutsSome (Decimal n) (now (page .entry)) at (now (page .exit)) r
+  pub put-number : Determines 𝓤 clock·number.ended (clock·number.clauses 𝓤 H A mem run) {L = List ℕ} (λ κs e. now (e .0))
+  put-number =
+      record {
+        Says = _;
+        stated = λ κs a g r e. refl;
+        one = λ κs a r s e f p q. (some-end _ (decimal-one _) _ _ _ _ _ _ p q, some-page _ (decimal-one _) _ _ _ _ _ _ p q);
+      }
 
   -- desk::input::Input::start: r ≡ unread
   pub input-start : DeterminesAnswer 𝓤 input·start.ended (input·start.clauses 𝓤 H A mem run)

@@ -1,20 +1,23 @@
-use borrow.Author.Needs.{needs}
 use Prim.Native.Nat.{_-_, _≤_}
 use mathlib.Core.Path.{_≡_}
 use native.Mathlib.Omega.{arith}
-use Rattle.picture.specs.Frame.{glass}
-use Rattle.wall.specs.Draw.{columnBytes, strung}
-use Rattle.wall.specs.laws.DrawLaws.{strung-none, strung-more}
 use Rattle.desk.specs.Page.{Puts}
 use Rattle.desk.specs.laws.PageLaws.{puts-then}
+use Rattle.wall.specs.Apart.{columnsDrawn}
+use Rattle.wall.specs.Draw.{columnBytes, strung}
+use Rattle.wall.specs.laws.DrawLaws.{strung-none, strung-more}
+use borrow.Author.Needs.{needs}
 use Rattle.wall.proofs.draw.put_line.Statement.{statement}
 use Rattle.wall.proofs.draw.put_line.Tie as tie
 
 abbrev Inv-loop : tie.InvT-loop
-Inv-loop page₀ at chip frame row pairs end₀ column₀ t10 page end column = Puts (strung (columnBytes chip pairs frame row) column) page₀ end₀ page end × (column ≤ glass chip .cols)
+Inv-loop page₀ at chip frame row pairs apart columns end₀ column₀ t12 page end column = Puts (strung (columnBytes apart chip pairs frame row) column) page₀ end₀ page end × (column ≤ columns)
 
 abbrev μ-loop : tie.MeasureT-loop
-μ-loop page₀ at chip frame row pairs end₀ column₀ t10 page end column = glass chip .cols - column
+μ-loop page₀ at chip frame row pairs apart columns end₀ column₀ t12 page end column = columns - column
+
+columns-drawn-requires : tie.Need-columns-drawn-requires Inv-loop μ-loop
+columns-drawn-requires c κs = search needs
 
 slice-aggregate-put : tie.Need-slice-aggregate-put Inv-loop μ-loop
 slice-aggregate-put c = search needs
@@ -46,7 +49,7 @@ put-requires-2 c κs = search needs
 returns : tie.Need-returns Inv-loop μ-loop
 returns c =
     let l = c .before .before .before .before .loop in
-    let e : l .column ≡ glass (c .before .before .before .before .before .before .before .before .before .args .chip) .cols = omega arith in
+    let e : l .column ≡ columnsDrawn (c .before .before .before .before .before .before .before .before .before .before .args .apart) = omega arith in
     puts-then _ _ _ _ _ _ _ _ (puts-then _ _ _ _ _ _ _ _ (c .before .before .before .before .before .put .ensures) (rw e at (l .inv .0))) (c .put2 .ensures)
 
 pub put-line-spec : {M : Type 1} → statement M
@@ -55,6 +58,7 @@ put-line-spec =
     (tie.spec
     Inv-loop
     μ-loop
+    columns-drawn-requires
     slice-aggregate-put
     put-requires
     loop-holds
