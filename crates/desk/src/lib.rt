@@ -7,5 +7,6 @@ pub mod input;
 pub mod number;
 pub mod page;
 pub mod print;
+pub mod progress;
 pub mod times;
 pub mod told;
