@@ -18,11 +18,13 @@ const SECOND: u64 = 1000000;
 
 const WHILE: u64 = 250000;
 
-// Whether anything is shown, and whether a line stands there now; the bytes that lie before the next read, and the size of
-// the file, 0 where that is not known; and the work after which the line is shown next.
+// Whether anything is shown, whether a line stands there now, and whether the print goes to a terminal too; the bytes that
+// lie before the next read, and the size of the file, 0 where that is not known; and the work after which the line is shown
+// next.
 pub struct Progress {
     shown: bool,
     stands: bool,
+    same: bool,
     read: u64,
     size: u64,
     next: u64,
@@ -31,6 +33,7 @@ pub struct Progress {
 const NOTHING: Progress = Progress {
     shown: false,
     stands: false,
+    same: false,
     read: 0,
     size: 0,
     next: SECOND,
@@ -48,7 +51,8 @@ fn at_least_0(answer: i64) -> u64 {
     answer as u64
 }
 
-// The line, over the one that stands there. A file that has grown since is of no known size any more.
+// The line, over the one that stands there. A file that has grown since is of no known size any more. The cursor goes back,
+// so that what another program prints there begins where a line does.
 fn tell_line(name: &[u8], read: u64, size: u64) {
     tell(b"\r");
     tell(name);
@@ -58,7 +62,7 @@ fn tell_line(name: &[u8], read: u64, size: u64) {
         tell(b" of ");
         io::print_decimal(BESIDE, size);
     }
-    tell(b" bytes read\x1B[K");
+    tell(b" bytes read\x1B[K\r");
 }
 
 // From where standard input stands, up to the size that it has. A pipe has no place and no size.
@@ -80,20 +84,25 @@ fn start_at(place: i64) -> Progress {
 }
 
 impl Progress {
-    // Before the first read, for a program that prints once it has read, or clears the line before it prints.
+    // Before the first read, for a program that prints once all is read, or makes room before it prints.
     pub fn start() -> Progress {
         if libc::isatty(BESIDE) != 1 {
             return NOTHING;
         }
-        start_at(libc::lseek(STDIN_FILENO, 0, SEEK_CUR))
+        let placed = start_at(libc::lseek(STDIN_FILENO, 0, SEEK_CUR));
+        Progress {
+            same: libc::isatty(STDOUT_FILENO) == 1,
+            ..placed
+        }
     }
 
     // The same for a program that prints all the while: on a terminal its print says how far it is.
     pub fn start_beside_print() -> Progress {
-        if libc::isatty(STDOUT_FILENO) == 1 {
+        let started = Progress::start();
+        if started.same {
             return NOTHING;
         }
-        Progress::start()
+        started
     }
 
     // After a read that brought so many bytes: shows the line where it is due.
@@ -115,7 +124,16 @@ impl Progress {
         }
     }
 
-    // Takes the line away, before anything is printed.
+    // Before something is printed in the midst of the log: takes the line away where the print goes to a terminal, which is
+    // hardly another one.
+    pub fn make_room(self) -> Progress {
+        if self.same {
+            return self.clear();
+        }
+        self
+    }
+
+    // Takes the line away, once all is read.
     pub fn clear(self) -> Progress {
         if self.stands {
             tell(b"\r\x1B[K");
