@@ -1,5 +1,5 @@
-// What the programs share: their arguments, the files, numbers, chips and times among these, standard input, and what
-// they write, at once or gathered on a page.
+// What the programs share: their arguments, the files, numbers, chips and times among these, standard input, what they
+// write, at once or gathered on a page, and what they show of how far they are.
 pub mod arguments;
 pub mod bytes;
 pub mod chips;
@@ -8,5 +8,6 @@ pub mod input;
 pub mod number;
 pub mod page;
 pub mod print;
+pub mod progress;
 pub mod times;
 pub mod told;

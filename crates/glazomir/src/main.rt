@@ -10,6 +10,7 @@ use desk::input::Input;
 use desk::print::show;
 use desk::print::show_bytes;
 use desk::print::show_number;
+use desk::progress::Progress;
 use desk::told::told_at;
 use mirror::panel::Panel;
 use mirror::stream::Run;
@@ -29,11 +30,14 @@ struct Fed {
 fn feed_all(start: Stream, block: &mut [u8]) -> Fed {
     let mut stream = start;
     let mut input = Input::start();
+    let mut progress = Progress::start();
     while input.left > 0 {
         input = input.read(block);
         let n = input.len;
+        progress = progress.after(b"glazomir", n);
         stream = stream.feed(&block[..n]);
     }
+    progress.clear();
     Fed {
         stream,
         failed: input.failed,

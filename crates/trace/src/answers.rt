@@ -5,6 +5,7 @@ use desk::input::Input;
 use desk::page::PAGE;
 use desk::page::put;
 use desk::page::write_out;
+use desk::progress::Progress;
 use mirror::stream::Reply;
 use mirror::stream::Run;
 use mirror::stream::Stream;
@@ -97,10 +98,13 @@ pub(crate) fn answer_all(start: Stream, block: &mut [u8]) -> Done {
     let refusal = refusal_of(start);
     let mut stream = start;
     let mut input = Input::start();
+    let mut progress = Progress::start_beside_print();
     while input.left > 0 {
         input = input.read(block);
         let n = input.len;
+        progress = progress.after(b"trace", n);
         stream = answer_part(stream, refusal, &block[..n]);
     }
+    progress.clear();
     ended(stream, refusal, input.failed)
 }

@@ -9,6 +9,7 @@ use crate::answers::put_line;
 use desk::input::Input;
 use desk::page::PAGE;
 use desk::page::write_out;
+use desk::progress::Progress;
 use log::front::wants_more;
 use mirror::answer::Answer;
 use mirror::count::COUNTS;
@@ -165,12 +166,15 @@ fn record_sound(panel: Panel, block: &mut [u8]) -> Done {
     let mut tally = Tally::start(panel);
     let mut kept: usize = 0;
     let mut input = Input::start();
+    let mut progress = Progress::start_beside_print();
     while input.left > 0 {
         input = input.read(&mut block[kept..]);
         let n = kept + input.len;
         tally = record_part(tally, &block[..n]);
         kept = move_front(block, tally.used, n);
+        progress = progress.after(b"trace", input.len);
     }
+    progress.clear();
     ended(tally, &block[..kept], input.failed)
 }
 

@@ -3,6 +3,7 @@ ghost use mathlib.Core.Path.{_≡_};
 ghost use Rattle.wall.specs.Watch.{laterThan};
 ghost use Rattle.wall.specs.engine.Watch.{isAnswered};
 use desk::input::Input;
+use desk::progress::Progress;
 use mirror::stream::Next;
 use mirror::stream::Reply;
 use mirror::stream::Stream;
@@ -90,12 +91,15 @@ pub(crate) fn watch_all(start: Stream, until: u64, block: &mut [u8]) -> Seen {
         failed: false,
     };
     let mut input = Input::start();
+    let mut progress = Progress::start();
     while input.left > 0 && seen.more {
         input = input.read(block);
         let n = input.len;
+        progress = progress.after(b"wall", n);
         let stream = seen.stream;
         seen = watch_part(stream, until, &block[..n]);
     }
+    progress.clear();
     Seen {
         failed: input.failed,
         ..seen

@@ -7,16 +7,19 @@ use Rattle.trace.proofs.records.record_sound.Statement.{statement}
 use Rattle.trace.proofs.records.record_sound.Tie as tie
 
 abbrev Inv-loop : tie.InvT-loop
-Inv-loop block₀ tally₀ kept₀ input₀ block tally kept input = (length block ≡ length block₀) × (kept ≤ length block)
+Inv-loop block₀ tally₀ kept₀ input₀ progress₀ t8 block tally kept input progress = (length block ≡ length block₀) × (kept ≤ length block)
 
 abbrev μ-loop : tie.MeasureT-loop
-μ-loop block₀ tally₀ kept₀ input₀ block tally kept input = input .left
+μ-loop block₀ tally₀ kept₀ input₀ progress₀ t8 block tally kept input progress = input .left
 
 start-requires : tie.Need-start-requires Inv-loop μ-loop
 start-requires c κs = search needs
 
 start-requires-2 : tie.Need-start-requires-2 Inv-loop μ-loop
 start-requires-2 c κs = search needs
+
+start-beside-print-requires : tie.Need-start-beside-print-requires Inv-loop μ-loop
+start-beside-print-requires c κs = search needs
 
 loop-holds : tie.Need-loop-holds Inv-loop μ-loop
 loop-holds c = search needs
@@ -48,11 +51,20 @@ record-part-requires c κs = search needs
 move-front-requires : tie.Need-move-front-requires Inv-loop μ-loop
 move-front-requires c κs = (omega (arith, simp length-take at (c .before .record-part .ensures)), omega arith)
 
+slice-aggregate-after : tie.Need-slice-aggregate-after Inv-loop μ-loop
+slice-aggregate-after c = search needs
+
+after-requires : tie.Need-after-requires Inv-loop μ-loop
+after-requires c κs = search needs
+
 loop-less : tie.Need-loop-less Inv-loop μ-loop
 loop-less c = search needs
 
 loop-again : tie.Need-loop-again Inv-loop μ-loop
-loop-again c = search needs
+loop-again c = (omega (arith, c .before .before .before .before .move-front .ensures .long, c .before .before .before .before .before .before .before .before .before .before .before .before .before .before .before .loop .inv .0), omega (arith, c .before .before .before .before .move-front .ensures .many, c .before .before .before .before .move-front .ensures .long, c .before .before .before .before .before .before .before .before .before .before .before .before .before .before .before .loop .inv .1))
+
+clear-requires : tie.Need-clear-requires Inv-loop μ-loop
+clear-requires c κs = search needs
 
 slice-reshare-prefix-ended : tie.Need-slice-reshare-prefix-ended Inv-loop μ-loop
 slice-reshare-prefix-ended c = search needs
@@ -77,6 +89,7 @@ record-sound-spec =
     μ-loop
     start-requires
     start-requires-2
+    start-beside-print-requires
     loop-holds
     sub-read
     part-read-start
@@ -87,8 +100,11 @@ record-sound-spec =
     slice-aggregate-record-part
     record-part-requires
     move-front-requires
+    slice-aggregate-after
+    after-requires
     loop-less
     loop-again
+    clear-requires
     slice-reshare-prefix-ended
     slice-aggregate-ended
     ended-requires
