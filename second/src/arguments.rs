@@ -1,12 +1,16 @@
-//! The words after each program's name: what a run is lent and asked for.
+//! The words after each program's name: what a run is lent and asked for. The names
+//! are looked at first, then which of them stand together, and then what they say.
+
+mod groups;
+pub mod together;
 
 use crate::chips::Chip;
 use crate::panel::{Panel, Times};
 use crate::panel_file;
 use crate::picture::{self, FONT_SIZE};
-use crate::wall::{Asked, Form, LATEST};
+use crate::wall::{Asked, LATEST};
+use groups::{Groups, Taken};
 use std::fs;
-use std::slice::Iter;
 
 /// A lent frame has at most this many bytes.
 pub const FRAME_LIMIT: usize = 200;
@@ -20,112 +24,76 @@ pub struct Lent {
     pub frames: Option<(Vec<u8>, Vec<u8>)>,
 }
 
-/// The words that every program takes: which chip a fresh panel has, and which
-/// times.
-#[derive(Default)]
-struct Fresh {
-    chip: Option<Chip>,
-    times: Option<Times>,
-}
+/// The groups that every program takes: which chip a fresh panel has, and which
+/// times. They are all that `glazomir` and `report` take.
+const FRESH: [Taken; 2] = [("chip", 1), ("times", 3)];
 
-impl Fresh {
-    /// Reads the rest of a group that is one of these.
-    fn read(&mut self, word: &str, rest: &mut Iter<String>) -> Result<(), &'static str> {
-        match word {
-            "chip" => once(&mut self.chip, chip(rest.next())?).map_err(|_| "chip given twice"),
-            "times" => once(&mut self.times, times(rest)?).map_err(|_| "times given twice"),
-            _ => Err("unknown word"),
-        }
-    }
+const TRACE: [Taken; 5] = [("font", 1), ("panel", 1), ("frame", 1), ("frames", 2), ("records", 0)];
 
-    fn panel(self) -> Panel {
-        Panel::fresh(self.chip.unwrap_or(Chip::ONE_LINE), self.times.unwrap_or(Times::USUAL))
-    }
-}
-
-#[derive(Default)]
-struct Given {
-    fresh: Fresh,
-    font: Option<Vec<u8>>,
-    panel: Option<Panel>,
-    frame_size: Option<usize>,
-    frames: Option<(Vec<u8>, Vec<u8>)>,
-    records: Option<()>,
-}
+const WALL: [Taken; 9] = [
+    ("ascii", 0), ("pbm", 0), ("svg", 0), ("apart", 0), ("live", 0), ("dark", 0), ("upright", 0), ("at", 1),
+    ("font", 1),
+];
 
 /// Reads the words of `glazomir` and of `report`: the panel that they start
 /// from. The error is one line that says what is wrong.
 pub fn start(words: &[String]) -> Result<Panel, &'static str> {
-    let mut fresh = Fresh::default();
-    let mut rest = words.iter();
-    while let Some(word) = rest.next() {
-        fresh.read(word, &mut rest)?;
-    }
-    Ok(fresh.panel())
+    fresh(&Groups::read(words, &FRESH)?)
 }
 
 /// Reads the words of `trace`.
 pub fn trace(words: &[String]) -> Result<Lent, &'static str> {
-    let mut given = Given::default();
-    let mut rest = words.iter();
-    while let Some(word) = rest.next() {
-        match word.as_str() {
-            "font" => once(&mut given.font, file(rest.next())?)?,
-            "panel" => once(&mut given.panel, panel_file::read(&file(rest.next())?)?)?,
-            "frame" => once(&mut given.frame_size, number(rest.next(), FRAME_LIMIT as u64)? as usize)?,
-            "frames" => once(&mut given.frames, (frame(rest.next())?, frame(rest.next())?))?,
-            "records" => once(&mut given.records, ())?,
-            word => given.fresh.read(word, &mut rest)?,
-        }
-    }
+    let groups = Groups::read(words, &[&TRACE[..], &FRESH].concat())?;
     // A panel that is handed in has a chip and times of its own.
-    let panel = given.panel.unwrap_or(given.fresh.panel());
+    let fresh = fresh(&groups)?;
+    let panel = groups.value("panel", |words| panel_file::read(&file(&words[0])?))?.unwrap_or(fresh);
+    let frame_size = groups.value("frame", |words| number(&words[0], FRAME_LIMIT as u64))?;
     Ok(Lent {
-        font: given.font.unwrap_or_else(picture::trial_font),
-        frame_size: given.frame_size.unwrap_or(panel.sheet.chip.frame_size()),
+        font: groups.value("font", |words| file(&words[0]))?.unwrap_or_else(picture::trial_font),
+        frame_size: frame_size.map_or(panel.sheet.chip.frame_size(), |size| size as usize),
         panel,
-        frames: given.frames,
+        frames: groups.value("frames", |words| Ok((frame(&words[0])?, frame(&words[1])?)))?,
     })
 }
 
 /// Reads the words of `wall`. No font of its own stands here in for one that
 /// is not given.
 pub fn wall(words: &[String]) -> Result<Asked, &'static str> {
-    let (mut ascii, mut pbm, mut dark, mut upright) = (None, None, None, None);
-    let (mut at, mut font, mut fresh) = (None, None, Fresh::default());
-    let mut rest = words.iter();
-    while let Some(word) = rest.next() {
-        match word.as_str() {
-            "ascii" => once(&mut ascii, ())?,
-            "pbm" => once(&mut pbm, ())?,
-            "dark" => once(&mut dark, ())?,
-            "upright" => once(&mut upright, ())?,
-            "at" => once(&mut at, number(rest.next(), LATEST)?)?,
-            "font" => once(&mut font, font_of_full_size(rest.next())?)?,
-            word => fresh.read(word, &mut rest)?,
-        }
-    }
-    let form = match (ascii, pbm) {
-        (None, None) => Form::HalfBlocks,
-        (Some(()), None) => Form::Ascii,
-        (None, Some(())) => Form::Bitmap,
-        (Some(()), Some(())) => return Err("ascii and pbm"),
-    };
-    Ok(Asked { form, dark: dark.is_some(), upright: upright.is_some(), at, font, start: fresh.panel() })
+    let groups = wall_groups(words)?;
+    Ok(Asked {
+        form: together::form(&groups)?,
+        apart: groups.has("apart"),
+        live: groups.has("live"),
+        dark: groups.has("dark"),
+        upright: groups.has("upright"),
+        start: fresh(&groups)?,
+        at: groups.value("at", |words| number(&words[0], LATEST))?,
+        font: groups.value("font", |words| font_of_full_size(&words[0]))?,
+    })
 }
 
-fn once<T>(place: &mut Option<T>, value: T) -> Result<(), &'static str> {
-    match place.replace(value) {
-        None => Ok(()),
-        Some(_) => Err("group given twice"),
-    }
+/// All that is wrong with the words of `wall` together; nothing where the words
+/// themselves are refused.
+pub fn wrong_together(words: &[String]) -> Vec<&'static str> {
+    wall_groups(words).map_or(Vec::new(), |groups| together::faults(&groups))
 }
 
-fn file(word: Option<&String>) -> Result<Vec<u8>, &'static str> {
-    fs::read(word.ok_or("file missing")?).map_err(|_| "file not readable")
+fn wall_groups(words: &[String]) -> Result<Groups<'_>, &'static str> {
+    Groups::read(words, &[&WALL[..], &FRESH].concat())
 }
 
-fn font_of_full_size(word: Option<&String>) -> Result<Vec<u8>, &'static str> {
+/// The chip's name comes before the numbers.
+fn fresh(groups: &Groups) -> Result<Panel, &'static str> {
+    let chip = groups.value("chip", |words| Chip::named(&words[0]).ok_or("name of the chip"))?;
+    let times = groups.value("times", times)?;
+    Ok(Panel::fresh(chip.unwrap_or(Chip::ONE_LINE), times.unwrap_or(Times::USUAL)))
+}
+
+fn file(word: &str) -> Result<Vec<u8>, &'static str> {
+    fs::read(word).map_err(|_| "file not readable")
+}
+
+fn font_of_full_size(word: &str) -> Result<Vec<u8>, &'static str> {
     let bytes = file(word)?;
     if bytes.len() != FONT_SIZE {
         return Err("size of the font");
@@ -133,7 +101,7 @@ fn font_of_full_size(word: Option<&String>) -> Result<Vec<u8>, &'static str> {
     Ok(bytes)
 }
 
-fn frame(word: Option<&String>) -> Result<Vec<u8>, &'static str> {
+fn frame(word: &str) -> Result<Vec<u8>, &'static str> {
     let bytes = file(word)?;
     if bytes.len() > FRAME_LIMIT {
         return Err("frame file too long");
@@ -141,17 +109,12 @@ fn frame(word: Option<&String>) -> Result<Vec<u8>, &'static str> {
     Ok(bytes)
 }
 
-fn chip(word: Option<&String>) -> Result<Chip, &'static str> {
-    Chip::named(word.ok_or("name missing")?).ok_or("name of the chip")
+fn times(words: &[String]) -> Result<Times, &'static str> {
+    let time = |at: usize| number(&words[at], 65_535).map(|n| n as u16);
+    Ok(Times { reset: time(0)?, long: time(1)?, short: time(2)? })
 }
 
-fn times(words: &mut Iter<String>) -> Result<Times, &'static str> {
-    let mut time = || number(words.next(), 65_535).map(|n| n as u16);
-    Ok(Times { reset: time()?, long: time()?, short: time()? })
-}
-
-fn number(word: Option<&String>, most: u64) -> Result<u64, &'static str> {
-    let word = word.ok_or("number missing")?;
+fn number(word: &str, most: u64) -> Result<u64, &'static str> {
     if word.is_empty() || !word.bytes().all(|digit| digit.is_ascii_digit()) {
         return Err("not a number");
     }
@@ -164,6 +127,7 @@ fn number(word: Option<&String>, most: u64) -> Result<u64, &'static str> {
 #[cfg(test)]
 mod tests {
     use super::*;
+    use crate::wall::Form;
 
     fn split(words: &str) -> Vec<String> {
         words.split(' ').map(str::to_string).collect()
@@ -208,6 +172,20 @@ mod tests {
             "chip 6635 at 7 dark ascii upright", "at 7 upright times 10000 1640 40 chip 6635 dark ascii",
         ] {
             assert_eq!(wall(&split(words)), Ok(all.clone()), "{words}");
+        }
+    }
+
+    #[test]
+    fn cells_apart_and_as_the_log_comes() {
+        let ascii = Asked::plainly(Form::Ascii, usual(31));
+        assert_eq!(wall(&split("apart ascii")), Ok(Asked { apart: true, ..ascii.clone() }));
+        let live = Asked { live: true, upright: true, ..ascii };
+        assert_eq!(wall(&split("ascii upright live")), Ok(live.clone()));
+        assert_eq!(wall(&split("live apart upright ascii")), Ok(Asked { apart: true, ..live }));
+        let svg = Asked { dark: true, at: Some(7), ..Asked::plainly(Form::Svg, usual(35)) };
+        assert_eq!(wall(&split("svg at 7 chip 6635 dark")), Ok(svg));
+        for word in ["apart", "live", "svg"] {
+            assert_eq!(start(&split(word)), Err("unknown word"), "{word} is a word of the wall alone");
         }
     }
 
@@ -270,12 +248,13 @@ mod tests {
         for (words, reason) in [
             ("chip", "name missing"), ("chip 6633", "name of the chip"), ("chip 35", "name of the chip"),
             ("chip NJU6635", "name of the chip"), ("chip ", "name of the chip"),
-            ("chip times 1 2 3", "name of the chip"),
+            ("chip times 1 2 3", "unknown word"), ("chip times", "name of the chip"),
             ("chip 6635 chip 6635", "chip given twice"), ("chip 6631 times 1 2 3 chip 6635", "chip given twice"),
             ("times 1 2 3 times 1 2 3", "times given twice"), ("times", "number missing"),
             ("times 1 2", "number missing"),
             ("times 1 2 65536", "number too large"), ("times 1 -2 3", "not a number"),
-            ("times 1 2 chip 6635", "not a number"), ("6635", "unknown word"), ("Chip 6635", "unknown word"),
+            ("times 1 2 chip", "not a number"),
+            ("times 1 2 chip 6635", "unknown word"), ("6635", "unknown word"), ("Chip 6635", "unknown word"),
             ("", "unknown word"), ("chip 6635 4", "unknown word"),
         ] {
             let words = split(words);
@@ -288,7 +267,8 @@ mod tests {
     #[test]
     fn refusals_of_trace() {
         for (words, reason) in [
-            ("ascii", "unknown word"), ("upright", "unknown word"), ("records records", "group given twice"),
+            ("ascii", "unknown word"), ("upright", "unknown word"), ("live", "unknown word"),
+            ("records records", "group given twice"),
             ("frame 201", "number too large"), ("frame +1", "not a number"), ("frame ", "not a number"),
             ("font", "file missing"), ("Records", "unknown word"),
         ] {
@@ -301,10 +281,10 @@ mod tests {
         for (words, reason) in [
             ("records", "unknown word"), ("ascii dark ascii", "group given twice"), ("at", "number missing"),
             ("at 281474976710657", "number too large"), ("at 18446744073709551616", "number too large"),
-            ("at -1", "not a number"), ("pbm dark ascii", "ascii and pbm"), ("font", "file missing"),
+            ("at -1", "not a number"), ("font", "file missing"), ("live dark live", "group given twice"),
             ("upright upright", "group given twice"), ("upright pbm dark upright", "group given twice"),
             ("Upright", "unknown word"), ("upright 1", "unknown word"), ("at upright", "not a number"),
-            ("upright ascii pbm", "ascii and pbm"),
+            ("apart apart", "group given twice"), ("svg svg", "group given twice"), ("SVG", "unknown word"),
         ] {
             assert_eq!(wall(&split(words)).err(), Some(reason), "{words}");
         }

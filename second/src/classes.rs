@@ -3,6 +3,7 @@
 //! that are refused, and panels of no known chip.
 
 mod lines;
+mod live;
 mod mirrored;
 mod reads;
 mod report;
@@ -154,6 +155,7 @@ pub fn of_chip(chip: Chip) -> Vec<String> {
     all.extend(prefixed(REPORT, &report::of_every_chip()));
     all.extend(prefixed(WALL, &wall::of_chip(chip)));
     all.extend(prefixed(WALL, &mirrored::of_wall(chip)));
+    all.extend(prefixed(WALL, &live::of_every_chip()));
     all.extend(prefixed(GLAZOMIR, &lines::of_glazomir(chip)));
     for program in ["", GLAZOMIR, REPORT, WALL] {
         all.extend(prefixed(program, &lines::given(chip)));
@@ -166,6 +168,7 @@ pub fn of_no_chip() -> Vec<String> {
     let mut all = lines::of_unknown_chips();
     all.extend(REFUSED.map(|reason| format!("refused: {reason}")));
     all.extend(wall::refused().map(|reason| format!("{WALL}refused: {reason}")));
+    all.extend(live::refused().iter().map(|reason| format!("{WALL}refused: {reason}")));
     all.push(format!("{WALL}{UPRIGHT_TWICE}"));
     for program in ["", GLAZOMIR, REPORT, WALL] {
         all.extend(REFUSED_OF_ALL.map(|reason| format!("{program}refused: {reason}")));

@@ -184,7 +184,7 @@ pub fn model_alone(question: &Question, words: &[String], tally: &Tally, reach: 
             if let Ok(asked @ Asked { font: Some(font), .. }) = &asked {
                 both_modes(&question.trial, turned::check_prints(asked, font, &question.trial.log), tally);
             }
-            observe_wall::question(reach, question, asked);
+            observe_wall::question(reach, question, words, asked);
         }
         Which::Trace => {
             let lent = arguments::trace(words);

@@ -1,16 +1,19 @@
 //! What a program should do with a question, by the model, and whether it did.
 
-use crate::arguments;
+use crate::arguments::{self, together};
 use crate::prints;
 use crate::questions::{Question, Which};
 use crate::report::page;
 use crate::start::{Feed, Output};
-use crate::wall::{self, Form};
+use crate::svg;
+use crate::wall::{self, Asked, Form};
 
 pub enum Expected {
     Print(Vec<u8>),
     /// This print and then one line on standard error, for this reason.
     Complaint(String, &'static str),
+    /// A drawing that is read back.
+    Drawing(svg::Due),
     /// A print in the program's own words.
     OwnWords,
     /// The model cannot tell: it has no font and draws no half blocks.
@@ -54,43 +57,60 @@ pub fn expected(question: &Question, words: &[String]) -> Expected {
         },
         Which::Wall => match arguments::wall(words) {
             Err(reason) => refusal(reason),
-            Ok(_) if fails => broken_off(String::new()),
+            Ok(asked) if fails && !asked.live => broken_off(String::new()),
             Ok(asked) => match (&asked.font, asked.form) {
                 (None, _) | (_, Form::HalfBlocks) => Expected::Unknown,
+                (Some(font), _) if fails => broken_off(wall::print_broken_off(&asked, font, log)),
+                (Some(font), Form::Svg) => drawing(&asked, font, log),
                 (Some(font), _) => Expected::Print(wall::print(&asked, font, log)),
             },
         },
     }
 }
 
-/// The print is the model's, byte for byte. A complaint is one line on
-/// standard error; without one the program ends with status 0.
+fn drawing(asked: &Asked, font: &[u8], log: &[u8]) -> Expected {
+    Expected::Drawing(svg::Due::of(asked, font, &wall::shown(&asked.start, log, asked.at).panel))
+}
+
+/// The print is the model's, byte for byte, or a drawing of the same dots. A complaint
+/// is one line on standard error; without one the program ends with status 0.
 pub fn difference(expected: &Expected, output: &Output) -> Option<String> {
-    let lines = output.complaint.iter().filter(|&&byte| byte == b'\n').count();
-    let due = match expected {
-        Expected::Print(print) => Some(&print[..]),
-        Expected::Complaint(print, _) => Some(print.as_bytes()),
-        Expected::OwnWords | Expected::Unknown => None,
+    let print = match expected {
+        Expected::Print(print) => differs(print, &output.print),
+        Expected::Complaint(print, _) => differs(print.as_bytes(), &output.print),
+        Expected::Drawing(due) => svg::difference(due, &output.print),
+        Expected::OwnWords => output.print.is_empty().then(|| "  a print is due".to_string()),
+        Expected::Unknown => return None,
     };
-    if due.is_some_and(|due| output.print != due) {
-        return due.map(|due| first_differing_line(due, &output.print));
+    print.or_else(|| match expected {
+        Expected::Complaint(_, reason) => wrong_complaint(reason, output),
+        _ => wrong_ending(output),
+    })
+}
+
+fn differs(due: &[u8], print: &[u8]) -> Option<String> {
+    (due != print).then(|| first_differing_line(due, print))
+}
+
+/// How a line is worded is known of words that do not stand together; no other fault
+/// is told by one of these lines.
+fn wrong_complaint(reason: &str, output: &Output) -> Option<String> {
+    let complaint = String::from_utf8_lossy(&output.complaint);
+    let line = complaint.strip_suffix('\n').filter(|line| !line.contains('\n'));
+    let is_right = line.is_some_and(|line| match together::LINES.contains(&reason) {
+        true => line == reason,
+        false => !together::LINES.contains(&line),
+    });
+    (!is_right || output.status.is_none())
+        .then(|| format!("  one line on standard error is due ({reason}), there is {complaint:?}"))
+}
+
+fn wrong_ending(output: &Output) -> Option<String> {
+    let lines = output.complaint.iter().filter(|&&byte| byte == b'\n').count();
+    if !output.complaint.is_empty() {
+        return Some(format!("  nothing is due on standard error, there are {lines} lines"));
     }
-    match expected {
-        Expected::Complaint(_, reason) => {
-            let one_line = lines == 1 && output.complaint.ends_with(b"\n");
-            (!one_line || output.status.is_none())
-                .then(|| format!("  one line on standard error is due ({reason}), there are {lines}"))
-        }
-        Expected::OwnWords if output.print.is_empty() || lines > 0 => {
-            Some("  a print is due, and nothing on standard error".to_string())
-        }
-        Expected::Print(_) if !output.complaint.is_empty() => {
-            Some(format!("  nothing is due on standard error, there are {lines} lines"))
-        }
-        Expected::Print(_) | Expected::OwnWords => (output.status != Some(0))
-            .then(|| format!("  the prints agree, but the status is {:?}", output.status)),
-        Expected::Unknown => None,
-    }
+    (output.status != Some(0)).then(|| format!("  the prints agree, but the status is {:?}", output.status))
 }
 
 fn first_differing_line(model: &[u8], program: &[u8]) -> String {
@@ -145,6 +165,21 @@ mod tests {
         }
     }
 
+    /// Such a line is due word for word, and is no line for another fault.
+    #[test]
+    fn words_together_are_refused_in_so_many_words() {
+        let words = due(Which::Wall, &["pbm", "apart", "live"], Feed::Whole);
+        let line = "wall: takes live without pbm, svg and at\n";
+        assert_eq!(difference(&words, &output("", line, Some(0))), None);
+        for other in ["wall: takes apart without pbm\n", "no\n", "", &line[1..], &line.repeat(2), &line[..40]] {
+            assert!(difference(&words, &output("", other, Some(0))).is_some(), "{other:?}");
+        }
+        assert!(difference(&words, &output("a\n", line, Some(0))).is_some());
+        let unknown = due(Which::Wall, &["pbm", "live", "bogus"], Feed::Whole);
+        assert!(difference(&unknown, &output("", line, Some(0))).is_some());
+        assert_eq!(difference(&unknown, &output("", "no\n", Some(0))), None);
+    }
+
     #[test]
     fn help_is_a_print_of_any_words() {
         assert_eq!(difference(&Expected::OwnWords, &output("help\n", "", Some(0))), None);
@@ -159,6 +194,16 @@ mod tests {
             let complaint = due(which, &[], Feed::Unreadable);
             assert!(matches!(complaint, Expected::Complaint(print, "standard input") if print.is_empty()), "{which:?}");
         }
+        let path = std::env::temp_dir().join(format!("second-broken-{}", std::process::id()));
+        std::fs::write(&path, [0; 1_920]).expect("a temporary file");
+        let words = ["live", "ascii", "font", &path.display().to_string()];
+        for (feed, lines) in [(Feed::Unreadable, 0), (Feed::BreaksOff, 17)] {
+            let complaint = due(Which::Wall, &words, feed);
+            assert!(matches!(complaint, Expected::Complaint(print, _) if print.lines().count() == lines), "{feed:?}");
+        }
+        let drawing = due(Which::Wall, &["svg", "font", words[3]], Feed::Whole);
+        assert!(matches!(drawing, Expected::Drawing(_)) && difference(&drawing, &output("", "", Some(0))).is_some());
+        std::fs::remove_file(&path).expect("it was written");
         let broken_off = due(Which::Report, &[], Feed::BreaksOff);
         assert!(matches!(broken_off, Expected::Complaint(print, "standard input") if print.starts_with("record\t")));
     }

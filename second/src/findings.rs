@@ -35,9 +35,11 @@ fn print_difference(programs: &Programs, question: &Question, directory: &Path) 
         let words = question.trial.words(directory).ok()?;
         ask(programs, question, &words).ok()?
     };
-    // Feeding in pieces is slow, and mostly not what makes the difference.
+    // Feeding in pieces is slow, and mostly not what makes the difference. What is read
+    // from a file goes by full reads, and no pipe promises them.
     let whole = Question { feed: Feed::Whole, ..question.clone() };
-    let feed = if what_differs(&whole).is_some() { Feed::Whole } else { question.feed };
+    let stays = matches!(question.feed, Feed::File) || what_differs(&whole).is_none();
+    let feed = if stays { question.feed } else { Feed::Whole };
     let with = |trial: &Trial| Question { which: question.which, trial: trial.clone(), feed };
     let small = shrink::shrink(question.trial.clone(), &|trial| what_differs(&with(trial)).is_some());
     println!("difference: {:?}, fed {feed:?}", question.which);

@@ -1,7 +1,10 @@
 //! Trials for `wall`: a log that sets the glass on purpose, a font of random
 //! bytes, so that a turned or mirrored glyph shows, and often a time to look at.
 
+pub mod apart;
+pub mod live;
 mod mirrored;
+pub mod together;
 mod written;
 
 pub use mirrored::turned_by_time;
@@ -22,6 +25,9 @@ use crate::start::BLOCK;
 /// D, C and B in all the ways in which the cursor shows or does not.
 const SCREENS: [u8; 8] = [6, 5, 7, 2, 4, 6, 5, 3];
 
+/// How often a picture is written in each way.
+const FORMS: [&str; 6] = ["ascii", "ascii apart", "pbm", "ascii", "apart ascii", "pbm"];
+
 fn random_of(seed: u64, number: u64) -> Random {
     Random::new(seed ^ 0x61A5_5000, number)
 }
@@ -38,18 +44,22 @@ fn scene(random: &mut Random, number: u64) -> Scene {
 }
 
 pub fn trial(seed: u64, number: u64) -> Trial {
-    let mut random = random_of(seed, number);
+    made(&mut random_of(seed, number), number, &FORMS)
+}
+
+/// A trial whose picture is written in one of these ways.
+fn made(random: &mut Random, number: u64, forms: &[&str]) -> Trial {
     let target = random.pick(&[0, 20, 60, 120]);
-    let scene = scene(&mut random, number);
-    let (groups, fresh) = lend::fresh(&mut random, 12);
-    let mut log = sender::send_glass(&mut random, fresh.clone(), target, scene);
+    let scene = scene(random, number);
+    let (groups, fresh) = lend::fresh(random, 12);
+    let mut log = sender::send_glass(random, fresh.clone(), target, scene);
     match random.below(20) {
-        0..=3 => cut(&mut random, &mut log),
+        0..=3 => cut(random, &mut log),
         4 => log.clear(),
         _ => {}
     }
-    let at = random.chance(60).then(|| time_to_ask(&mut random, &fresh, &log));
-    asked(&mut random, groups, at, log)
+    let at = random.chance(60).then(|| time_to_ask(random, &fresh, &log));
+    asked(random, groups, forms, at, log)
 }
 
 fn usual(chip: Chip) -> Panel {
@@ -86,12 +96,12 @@ pub fn long_trial(seed: u64, number: u64) -> Trial {
         .collect();
     let time = random.pick(&later);
     let at = random.pick(&[time, time, time.saturating_sub(1), time + 1]).min(TIME_LIMIT);
-    asked(&mut random, lend::chip_words(chip), Some(at), log)
+    asked(&mut random, lend::chip_words(chip), &FORMS, Some(at), log)
 }
 
 /// This log, asked for as it ends.
 pub fn whole_log(seed: u64, chip: Chip, log: Vec<u8>) -> Trial {
-    asked(&mut random_of(seed, 0), lend::chip_words(chip), None, log)
+    asked(&mut random_of(seed, 0), lend::chip_words(chip), &FORMS, None, log)
 }
 
 /// Two lines, a letter on each, at every time at which the glass changes.
@@ -158,7 +168,7 @@ pub fn refused(seed: u64) -> Vec<Trial> {
     let log = generator::short_night();
     let font = files("font", vec![random.bytes(FONT_SIZE)]);
     let wordings = [
-        "bogus", "ascii pbm", "pbm dark ascii", "ascii ascii", "dark pbm dark", "upright upright",
+        "bogus", "ascii ascii", "live live", "svg dark svg", "Apart", "dark pbm dark", "upright upright",
         "upright pbm dark upright", "Upright", "at upright", "at", "at 1 at 1", "at -1", "at x", "at 0x10",
         "at 281474976710657", "at 18446744073709551616", "ascii at dark", "--help", "records", "Ascii", "frame 80",
     ];
@@ -174,9 +184,9 @@ pub fn refused(seed: u64) -> Vec<Trial> {
     trials
 }
 
-/// A question for this log, drawn in either way.
-fn asked(random: &mut Random, groups: Vec<Group>, at: Option<u64>, log: Vec<u8>) -> Trial {
-    let form = random.pick(&["ascii", "ascii", "pbm"]);
+/// A question for this log, drawn in one of these ways.
+fn asked(random: &mut Random, groups: Vec<Group>, forms: &[&str], at: Option<u64>, log: Vec<u8>) -> Trial {
+    let form = random.pick(forms);
     Trial { groups: words(random, groups, form, at), log }
 }
 

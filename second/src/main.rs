@@ -4,7 +4,8 @@
 //! The model: `log`, `chips`, `chip`, `written`, `panel`, `picture`, `prints`,
 //! `demands`, with `panel_file` and `arguments` for what a run is lent, and `cases`;
 //! `turned` says what the picture's two modes have to do with each other.
-//! The report: `report`, and `again` for what was written again. The glass: `wall`.
+//! The report: `report`, and `again` for what was written again. The glass: `wall`, and
+//! `svg`, which reads a drawing of it back.
 //! The trials: `random`, `lend`, `sender`, `generator`, and `glass` for `wall`.
 //! The comparison: `questions`, `expected`, `start`, `compare`, `shrink`,
 //! `findings`, and the `commands` that run it; `classes` lists what the questions
@@ -35,6 +36,8 @@ mod observe_reads;
 mod observe_report;
 mod observe_unknown;
 mod observe_wall;
+mod observe_wall_apart;
+mod observe_wall_live;
 mod observe_wall_mirrored;
 mod observe_wall_places;
 mod observe_words;
@@ -50,6 +53,7 @@ mod report;
 mod sender;
 mod shrink;
 mod start;
+mod svg;
 mod turned;
 mod wall;
 mod written;
@@ -57,6 +61,7 @@ mod written;
 use report::page;
 use std::io::{self, Read, Write};
 use std::process::ExitCode;
+use wall::Form;
 
 const HELP: &str = "\
 second: a model of the mirror, and its comparison with the built programs
@@ -67,7 +72,11 @@ second: a model of the mirror, and its comparison with the built programs
   second wall [WORDS] < LOG      print what wall should print; `font FILE` must
                                  be among the words, and without `ascii` or
                                  `pbm` there is no drawing; `upright` draws
-                                 mirrored glass as it would be in mode A
+                                 mirrored glass as it would be in mode A,
+                                 `apart` leaves gaps between cells and lines,
+                                 `live` prints the pictures of a log in a file
+                                 that is read 32,768 bytes at a time, and
+                                 `svg` is not drawn here
   second cases                   check the cases of both chips and the pages'
                                  examples
   second reach [--logs N] [--seed S]
@@ -86,10 +95,12 @@ command line, split at spaces, that starts a program. N is 3000 logs and S is 1
 unless given; soak takes its seed from the clock. About half of the logs are for
 two lines, and many end on mirrored glass. Every log goes through trace, every
 eighth through glazomir, every eleventh through the report with nights of a box
-in haste beside them; the wall has logs of its own, one to five. A difference is
-shrunk to a short log and printed, and so is a class that no log of a chip
-reached (which a small N brings about); the status is then 1. The last line is
-`N passed, N failed`.
+in haste beside them; the wall has logs of its own, one to five, and of every
+twenty one that it shows live, from a file. What it draws with `svg`, for one of
+forty, is read back: its two paths and its text. A difference is shrunk to a
+short log and printed, and so is a class that no log of a chip reached (which a
+small N brings about); the status is then 1. The last line is `N passed, N
+failed`.
 ";
 
 fn main() -> ExitCode {
@@ -154,6 +165,10 @@ fn report(words: &[String]) -> Result<(), String> {
 
 fn wall(words: &[String]) -> Result<(), String> {
     let asked = arguments::wall(words)?;
+    if asked.form == Form::Svg {
+        return Err("svg is not drawn here, but read back by compare".to_string());
+    }
     let font = asked.font.as_ref().ok_or("font FILE is wanted: there is no font here")?;
-    print_all(&wall::print(&asked, font, &read_log(nothing)?))
+    let log = read_log(|read| wall::print_broken_off(&asked, font, read))?;
+    print_all(&wall::print(&asked, font, &log))
 }

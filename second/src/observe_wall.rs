@@ -6,6 +6,8 @@ use crate::chips::LINE;
 use crate::classes::WALL;
 use crate::glass::{self, Moment};
 use crate::log::{self, Message, TIME_LIMIT};
+use crate::observe_wall_apart;
+use crate::observe_wall_live;
 use crate::observe_wall_mirrored;
 use crate::observe_wall_places;
 use crate::observe_words;
@@ -16,19 +18,29 @@ use crate::reach::Reach;
 use crate::start::{Feed, BLOCK};
 use crate::wall::{self, Asked, Form, Shown};
 
-/// Notes what one question reaches; `asked` is the refusal where there is one.
-pub fn question(reach: &mut Reach, question: &Question, asked: Result<Asked, &str>) {
+/// Notes what one question reaches; `asked` is the refusal of the words where there is
+/// one.
+pub fn question(reach: &mut Reach, question: &Question, words: &[String], asked: Result<Asked, &str>) {
     let log = &question.trial.log;
     let asked = match asked {
         Ok(asked) => asked,
         Err(reason) => {
             observe_wall_mirrored::refused(reach, &question.trial, reason);
+            observe_wall_apart::refused(reach, &question.trial, words, reason);
             return reach.note_by_itself(&format!("{WALL}refused: {reason}"));
         }
     };
     reach.turn_to(asked.start.sheet.chip);
     observe_words::given(reach, WALL, &question.trial);
     let shown = wall::shown(&asked.start, log, asked.at);
+    observe_wall_apart::drawn(reach, &asked, &shown);
+    if asked.form == Form::Svg {
+        // It has neither codes nor a line for the cursor or the written places.
+        return;
+    }
+    if asked.live {
+        observe_wall_live::pictures(reach, &asked, log);
+    }
     screen(reach, &asked, &shown.panel.sheet);
     observe_wall_places::written(reach, &asked, &shown, log);
     observe_wall_mirrored::drawn(reach, &asked, &shown, log);

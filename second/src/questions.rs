@@ -2,6 +2,7 @@
 //! for the seed, and those of each of the generator's turns.
 
 mod mirrored;
+mod wall;
 mod written;
 
 use crate::cases;
@@ -57,7 +58,7 @@ pub fn fixed(seed: u64) -> Vec<Question> {
     questions.extend(in_pieces(seed));
     questions.extend(long(seed));
     questions.extend(of_the_report(seed));
-    questions.extend(of_the_wall(seed));
+    questions.extend(wall::all(seed));
     questions.extend(panels());
     questions.extend(reads(seed));
     questions.extend(written::all(seed));
@@ -87,6 +88,12 @@ pub fn of_turn(seed: u64, turn: u64) -> Vec<Question> {
     if turn % 5 == 2 {
         let feed = if turn % 100 == 2 { Feed::Pieces(1 + turn as usize / 100 % 17 * 2) } else { Feed::Whole };
         questions.push(Question { feed, ..ask(Which::Wall, glass::trial(seed, turn / 5)) });
+    }
+    if turn % 20 == 11 {
+        questions.push(Question { feed: Feed::File, ..ask(Which::Wall, glass::live::trial(seed, turn / 20)) });
+    }
+    if turn % 40 == 33 {
+        questions.push(ask(Which::Wall, glass::apart::svg_trial(seed, turn / 40)));
     }
     questions
 }
@@ -167,22 +174,6 @@ fn of_the_report(seed: u64) -> Vec<Question> {
     for refused in ["-h", "--help --help", "--help bogus", "bogus --help", "10000 1640 40", ""] {
         questions.push(words(Which::Report, refused, short.clone()));
     }
-    questions
-}
-
-fn of_the_wall(seed: u64) -> Vec<Question> {
-    let ask = |trial, feed| Question { which: Which::Wall, trial, feed };
-    let mut questions = Vec::new();
-    for (number, odd) in (0..).zip([7, 13, 31, 61, 127, 251, 509, 1_021]) {
-        questions.push(ask(glass::long_trial(seed, number), Feed::Pieces(odd)));
-        questions.push(ask(glass::long_trial(seed, number + 8), Feed::Whole));
-    }
-    let mut whole = [glass::example_and_edges(), glass::two_lines_by_time(), glass::refused(seed)].concat();
-    whole.extend(glass::doubtful_reads_by_time());
-    whole.extend(Chip::KNOWN.into_iter().flat_map(|chip| glass::shifts(seed, chip)));
-    whole.extend(Chip::KNOWN.into_iter().flat_map(glass::places_by_time));
-    whole.extend(Chip::KNOWN.into_iter().flat_map(glass::turned_by_time));
-    questions.extend(whole.into_iter().map(|trial| ask(trial, Feed::Whole)));
     questions
 }
 
@@ -270,6 +261,10 @@ fn unreadable(seed: u64) -> Vec<Question> {
     for (chip, feed) in Chip::KNOWN.into_iter().zip([Feed::Unreadable, Feed::BreaksOff]) {
         questions.push(Question { feed, ..by_records(chip, log.clone()) });
         questions.push(Question { which: Which::Wall, trial: glass::whole_log(seed, chip, log.clone()), feed });
+        // The pictures up to then, which are none where nothing could be read.
+        for feed in [Feed::Unreadable, Feed::BreaksOff] {
+            questions.push(Question { which: Which::Wall, trial: glass::live::whole_log(chip, log.clone()), feed });
+        }
     }
     questions
 }

@@ -5,13 +5,15 @@
 
 mod faults;
 mod glass;
+mod live;
 mod mirrored;
 mod nights;
 mod phrases;
 mod reads;
 mod written;
 
-pub use glass::{send_glass, Scene};
+pub use glass::{any_scene, send_glass, Scene};
+pub use live::{send_deeds, Deed};
 pub use mirrored::send_turns;
 pub use nights::send_nights;
 pub use reads::send_codes_before_reads;

@@ -1,10 +1,11 @@
 //! Starts a built program, feeds it a log and collects what it prints.
 
-use std::fs::File;
+use std::fs::{self, File};
 use std::io::{self, Read, Write};
 use std::os::fd::OwnedFd;
 use std::os::unix::net::UnixStream;
-use std::process::{Child, Command, Stdio};
+use std::process::{self, Child, Command, Stdio};
+use std::sync::atomic::{AtomicU64, Ordering::SeqCst};
 use std::sync::mpsc::{self, Receiver};
 use std::thread;
 use std::time::{Duration, Instant};
@@ -18,12 +19,14 @@ pub const BLOCK: usize = 1 << 15;
 /// No print is as long as this, so no more is read.
 const PRINT_LIMIT: u64 = 1 << 24;
 
-/// How the log goes through the pipe.
+/// How the log goes through the pipe, if there is one.
 #[derive(Clone, Copy, Debug)]
 pub enum Feed {
     Whole,
     /// So many bytes at a time.
     Pieces(usize),
+    /// Standard input is a file, which every read fills until it ends.
+    File,
     /// Not at all: standard input is a directory, which cannot be read.
     Unreadable,
     /// Whole, and then reading fails where the log would end.
@@ -45,7 +48,7 @@ pub struct Output {
 }
 
 pub fn start(command: &[String], words: &[String], log: &[u8], feed: Feed) -> io::Result<Output> {
-    let (theirs, ours) = standard_input(feed)?;
+    let (theirs, ours) = standard_input(log, feed)?;
     let mut child = Command::new(&command[0])
         .args(&command[1..])
         .args(words)
@@ -68,8 +71,9 @@ pub fn start(command: &[String], words: &[String], log: &[u8], feed: Feed) -> io
 }
 
 /// What the program reads from, and our end of it where that is no pipe.
-fn standard_input(feed: Feed) -> io::Result<(Stdio, Option<OwnedFd>)> {
+fn standard_input(log: &[u8], feed: Feed) -> io::Result<(Stdio, Option<OwnedFd>)> {
     match feed {
+        Feed::File => Ok((Stdio::from(nameless(log)?), None)),
         Feed::Unreadable => Ok((Stdio::from(File::open(std::env::temp_dir())?), None)),
         Feed::Whole | Feed::Pieces(_) => Ok((Stdio::piped(), None)),
         Feed::BreaksOff => {
@@ -80,6 +84,17 @@ fn standard_input(feed: Feed) -> io::Result<(Stdio, Option<OwnedFd>)> {
             Ok((Stdio::from(OwnedFd::from(theirs)), Some(OwnedFd::from(ours))))
         }
     }
+}
+
+/// A file of these bytes that is gone when it is closed.
+fn nameless(bytes: &[u8]) -> io::Result<File> {
+    static NUMBER: AtomicU64 = AtomicU64::new(0);
+    let name = format!("second-log-{}-{}", process::id(), NUMBER.fetch_add(1, SeqCst));
+    let path = std::env::temp_dir().join(name);
+    fs::write(&path, bytes)?;
+    let file = File::open(&path)?;
+    fs::remove_file(&path)?;
+    Ok(file)
 }
 
 fn collect(pipe: impl Read + Send + 'static) -> Receiver<Vec<u8>> {
@@ -96,7 +111,7 @@ fn collect(pipe: impl Read + Send + 'static) -> Receiver<Vec<u8>> {
 /// A program may stop reading early, so a broken pipe is no error here.
 fn feed_log(mut stdin: File, log: &[u8], feed: Feed) {
     match feed {
-        Feed::Unreadable => {}
+        Feed::File | Feed::Unreadable => {}
         Feed::Whole | Feed::BreaksOff => drop(stdin.write_all(log)),
         Feed::Pieces(size) => {
             // The program must be reading already, or the pieces pile up in
@@ -138,7 +153,7 @@ mod tests {
     #[test]
     fn every_byte_arrives() {
         let bytes: Vec<u8> = (0..200_000_u32).map(|n| (n % 251) as u8).collect();
-        for feed in [Feed::Whole, Feed::Pieces(4_093)] {
+        for feed in [Feed::Whole, Feed::Pieces(4_093), Feed::File] {
             let output = cat(&bytes, feed);
             assert!(output.print == bytes && output.status == Some(0) && output.complaint.is_empty(), "{feed:?}");
         }

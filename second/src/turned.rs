@@ -43,12 +43,13 @@ fn painting(panel: &Panel, bit: u8, font: &[u8], dark: bool) -> (Painting, Vec<u
 }
 
 /// Whether the wall's prints with `upright` and without are each other's turn where
-/// bit 0 is set, and the same where it is not, in both forms.
+/// bit 0 is set, and the same where it is not, in both forms: the frames as they are.
 pub fn check_prints(asked: &Asked, font: &[u8], log: &[u8]) -> Result<(), &'static str> {
     let is_turned = wall::shown(&asked.start, log, asked.at).panel.sheet.function % 2 == 1;
+    let frames = Asked { apart: false, live: false, ..asked.clone() };
     for form in [Form::Ascii, Form::Bitmap] {
         let [plain, upright] =
-            [false, true].map(|upright| wall::print(&Asked { form, upright, ..asked.clone() }, font, log));
+            [false, true].map(|upright| wall::print(&Asked { form, upright, ..frames.clone() }, font, log));
         if !is_turned && plain != upright {
             return Err("upright makes a difference in mode A");
         }

@@ -1,12 +1,16 @@
-//! What `wall` prints: the glass at the end of a log or at a time, drawn, and
-//! as text, codes, the cursor's place and the written places. docs/WALL.md says it.
+//! What `wall` prints: the glass at the end of a log, at a time or as the log comes,
+//! drawn, and as text, codes, the cursor's place and the written places.
+//! docs/WALL.md says it.
+
+mod drawing;
+pub mod live;
 
 use crate::chip::Sheet;
 use crate::chips::LINE;
 use crate::log::{self, TIME_LIMIT};
 use crate::panel::number::{BACK, BAD};
 use crate::panel::Panel;
-use crate::picture::{self, Place, COLUMNS};
+use crate::picture::{self, Place};
 use crate::prints::spaced;
 
 /// The latest time that may be asked for; no record has it.
@@ -18,12 +22,18 @@ pub enum Form {
     HalfBlocks,
     Ascii,
     Bitmap,
+    /// Drawn by others too; what they draw is read back in `svg`.
+    Svg,
 }
 
 /// What `wall` is asked for.
 #[derive(Clone, Debug, PartialEq)]
 pub struct Asked {
     pub form: Form,
+    /// The word `apart`; `live` and the SVG have their cells apart without it.
+    pub apart: bool,
+    /// The pictures as the log comes.
+    pub live: bool,
     pub dark: bool,
     /// The picture as it would be in mode A.
     pub upright: bool,
@@ -38,7 +48,7 @@ pub struct Asked {
 impl Asked {
     /// This form and nothing else: light, as it is wired, at the end of the log.
     pub fn plainly(form: Form, start: Panel) -> Asked {
-        Asked { form, dark: false, upright: false, at: None, font: None, start }
+        Asked { form, apart: false, live: false, dark: false, upright: false, at: None, font: None, start }
     }
 }
 
@@ -64,14 +74,42 @@ pub fn shown(start: &Panel, log: &[u8], at: Option<u64>) -> Shown {
     Shown { panel, before: None }
 }
 
-/// The print but for the drawing in half blocks.
+/// The print but for what others draw.
 pub fn print(asked: &Asked, font: &[u8], log: &[u8]) -> Vec<u8> {
+    if asked.live {
+        return live::print(asked, font, log).into_bytes();
+    }
     let panel = shown(&asked.start, log, asked.at).panel;
-    let frame = frame(asked, font, &panel);
+    let glass = Glass::of(asked, font, &panel);
     match asked.form {
-        Form::Bitmap => [format!("P4\n80 {}\n", panel.sheet.chip.rows()).as_bytes(), &frame].concat(),
-        Form::Ascii => (drawing(&frame) + &lines(&panel.sheet)).into_bytes(),
-        Form::HalfBlocks => lines(&panel.sheet).into_bytes(),
+        Form::Bitmap => [format!("P4\n80 {}\n", panel.sheet.chip.rows()).as_bytes(), &glass.frame].concat(),
+        Form::Ascii | Form::HalfBlocks => glass.print(asked).into_bytes(),
+        Form::Svg => Vec::new(),
+    }
+}
+
+/// What is printed where reading fails after these bytes.
+pub fn print_broken_off(asked: &Asked, font: &[u8], log: &[u8]) -> String {
+    if asked.live { live::print_broken_off(asked, font, log) } else { String::new() }
+}
+
+/// A picture: the frame, and the lines beneath its drawing.
+#[derive(PartialEq)]
+pub struct Glass {
+    pub frame: Vec<u8>,
+    pub lines: String,
+}
+
+impl Glass {
+    pub fn of(asked: &Asked, font: &[u8], panel: &Panel) -> Glass {
+        Glass { frame: frame(asked, font, panel), lines: lines(&panel.sheet) }
+    }
+
+    /// The drawing in marks, where it is asked for, and the lines.
+    fn print(&self, asked: &Asked) -> String {
+        let is_drawn = asked.form == Form::Ascii;
+        let drawing = is_drawn.then(|| drawing::drawing(&self.frame, asked.apart || asked.live));
+        drawing.unwrap_or_default() + &self.lines
     }
 }
 
@@ -87,29 +125,21 @@ pub fn frame(asked: &Asked, font: &[u8], panel: &Panel) -> Vec<u8> {
     frame
 }
 
-/// As many rows as the frame has bytes for.
-fn drawing(frame: &[u8]) -> String {
-    let edge = format!("+{}+\n", "-".repeat(COLUMNS));
-    let mut print = edge.clone();
-    for row in 0..frame.len() / 10 {
-        let dot = |column| if picture::dot(frame, row, column) { '#' } else { '.' };
-        let dots: String = (0..COLUMNS).map(dot).collect();
-        print += &format!("|{dots}|\n");
-    }
-    print + &edge
+/// The text of each line, a character for each position.
+pub fn texts(sheet: &Sheet) -> Vec<String> {
+    (0..sheet.chip.lines()).map(|line| codes(sheet, line).map(character).iter().collect()).collect()
+}
+
+fn codes(sheet: &Sheet, line: usize) -> [u8; LINE] {
+    std::array::from_fn(|position| picture::code_at(sheet, Place { line, position }))
 }
 
 /// The text of every line, then the codes of every line, the cursor, and the
 /// written places of all lines together.
 fn lines(sheet: &Sheet) -> String {
-    let (mut texts, mut all_codes) = (String::new(), String::new());
-    for line in 0..sheet.chip.lines() {
-        let codes: [u8; LINE] = std::array::from_fn(|position| picture::code_at(sheet, Place { line, position }));
-        let text: String = codes.map(character).iter().collect();
-        texts += &format!("text |{text}|\n");
-        all_codes += &format!("codes {}\n", spaced(&codes));
-    }
-    format!("{texts}{all_codes}cursor {}\nwritten {}\n", cursor(sheet), written(sheet))
+    let texts: String = texts(sheet).iter().map(|text| format!("text |{text}|\n")).collect();
+    let all_codes = (0..sheet.chip.lines()).map(|line| format!("codes {}\n", spaced(&codes(sheet, line))));
+    format!("{texts}{}cursor {}\nwritten {}\n", all_codes.collect::<String>(), cursor(sheet), written(sheet))
 }
 
 /// With one line there is no need to say which.

@@ -28,9 +28,7 @@ const BLOCKS: [&str; 6] = [
     "the time in the second block, in pieces", "the time in a later block, in pieces",
 ];
 
-const REFUSED: [&str; 5] = [
-    "group given twice", "ascii and pbm", "file missing", "file not readable", "size of the font",
-];
+const REFUSED: [&str; 4] = ["group given twice", "file missing", "file not readable", "size of the font"];
 
 /// Where the cursor is, and what differs from line to line.
 const TWO_LINES: [&str; 8] = [
@@ -50,7 +48,8 @@ pub fn of_chip(chip: Chip) -> Vec<String> {
     all
 }
 
-/// Reasons that are the wall's own; none of the others stands here.
-pub fn refused() -> [&'static str; 5] {
+/// Reasons that are the wall's own but for words together; none of the others stands
+/// here.
+pub fn refused() -> [&'static str; 4] {
     REFUSED
 }

@@ -8,7 +8,7 @@ use crate::log;
 use crate::picture;
 
 /// So far apart that every record is taken.
-const APART: u64 = 2_000;
+pub(super) const APART: u64 = 2_000;
 
 /// A pattern, codes on every line, the cursor under another, and then Function Sets:
 /// the glass is turned by the twelfth record, turned back by the fifteenth, and turned
@@ -22,10 +22,18 @@ fn story() -> [(u8, u8); 16] {
     ]
 }
 
+fn sent() -> Vec<(u64, u8, u8)> {
+    (0..).zip(story()).map(|(number, (control, byte))| (APART * number, control, byte)).collect()
+}
+
+/// The whole story.
+pub(super) fn story_log() -> Vec<u8> {
+    log::write_transfers(&sent())
+}
+
 /// The trial font has no glyph that a turn leaves alike.
 pub fn turned_by_time(chip: Chip) -> Vec<Trial> {
-    let sent: Vec<(u64, u8, u8)> =
-        (0..).zip(story()).map(|(number, (control, byte))| (APART * number, control, byte)).collect();
+    let sent = sent();
     let asked = |words: &str, number: u64| {
         let mut groups = lend::chip_words(chip);
         let words = if number == 0 { words.to_string() } else { format!("{words} at {}", APART * (number - 1)) };

@@ -41,7 +41,7 @@ pub fn send_glass(random: &mut Random, panel: Panel, target: usize, last: Scene)
     sender.log
 }
 
-fn any_scene(random: &mut Random) -> Scene {
+pub fn any_scene(random: &mut Random) -> Scene {
     Scene {
         shift: random.byte() & 15,
         screen: random.pick(&[2, 3, 4, 5, 5, 6, 6, 7, 7]),
@@ -66,7 +66,7 @@ impl Sender<'_> {
         }
     }
 
-    fn scene(&mut self, scene: Scene) {
+    pub(super) fn scene(&mut self, scene: Scene) {
         let patient = std::mem::replace(&mut self.habits.patient, 100);
         if self.random.chance(20) {
             self.pattern();
