@@ -1,4 +1,5 @@
 // Numbers and clocks, put on a page. Each function answers where the next byte goes.
+ghost use mathlib.Core.Path.{_≡_};
 ghost use Rattle.desk.specs.Page.{Puts};
 ghost use Rattle.desk.specs.Clock.{Clock, Decimal, Hours, PutsSome, twoOf, withinHour};
 use crate::page::PAGE;
@@ -24,12 +25,13 @@ pub fn put_number(page: &mut [u8; PAGE], at: usize, n: u64) -> usize
 }
 
 // The last two digits of a number in decimal.
-fn put_two(page: &mut [u8; PAGE], at: usize, n: u64) -> usize
-    ensures { λ r. ⌜ Puts (twoOf n) (now (page .entry)) at (now (page .exit)) r ⌝ }
+fn two(n: u64) -> [u8; 2]
+    ensures { λ r. ⌜ r ≡ twoOf n ⌝ }
 {
-    let tens = text::digit((n / 10 % 10) as u8);
-    let ones = text::digit((n % 10) as u8);
-    put(page, at, &[tens, ones])
+    [
+        text::digit((n / 10 % 10) as u8),
+        text::digit((n % 10) as u8),
+    ]
 }
 
 // Two digits, and more from 100 on.
@@ -37,23 +39,36 @@ fn put_hours(page: &mut [u8; PAGE], at: usize, hours: u64) -> usize
     ensures { λ r. ⌜ PutsSome (Hours hours) (now (page .entry)) at (now (page .exit)) r ⌝ }
 {
     if hours < 100 {
-        return put_two(page, at, hours);
+        return put(page, at, &two(hours));
     }
     put_number(page, at, hours)
 }
 
-// Minutes, seconds and millionths.
+// Minutes, seconds and millionths, put as one.
 fn put_within(page: &mut [u8; PAGE], at: usize, time: u64) -> usize
     ensures { λ r. ⌜ Puts (withinHour time) (now (page .entry)) at (now (page .exit)) r ⌝ }
 {
-    let a = put(page, at, b":");
-    let b = put_two(page, a, time / MINUTE % 60);
-    let c = put(page, b, b":");
-    let d = put_two(page, c, time / SECOND % 60);
-    let e = put(page, d, b".");
-    let f = put_two(page, e, time / 10000);
-    let g = put_two(page, f, time / 100);
-    put_two(page, g, time)
+    let m = two(time / MINUTE % 60);
+    let s = two(time / SECOND % 60);
+    let a = two(time / 10000);
+    let b = two(time / 100);
+    let c = two(time);
+    let clock = [
+        b':',
+        m[0],
+        m[1],
+        b':',
+        s[0],
+        s[1],
+        b'.',
+        a[0],
+        a[1],
+        b[0],
+        b[1],
+        c[0],
+        c[1],
+    ];
+    put(page, at, &clock)
 }
 
 // A time as hours, minutes, seconds and millionths.

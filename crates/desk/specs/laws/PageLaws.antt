@@ -1,11 +1,13 @@
 -- Bytes that are put on a page one after another.
-use Prim.Native.Nat.{ℕ, suc, _+_, _<_}
-use mathlib.Core.Path.{_≡_, refl, sym, ap, _∙_}
+use Prim.Native.Nat.{ℕ, suc, _+_, _<_, _≤_}
+use native.Mathlib.Omega.{arith}
+use mathlib.Core.Path.{_≡_, refl, sym, ap, subst, _∙_}
 use mathlib.Core.List.{List, [], _∷_, _++_}
 use native.Mathlib.Numerals.{add-one}
+use borrow.Author.Tests.{lt-leb}
 use lib.ListN.{length, getD, drop, set}
 use lib.Seq.{drop-cons, drop-length}
-use Rattle.desk.specs.Page.{Page, Puts, placeOn, pageWith, pageWithAll}
+use Rattle.desk.specs.Page.{Page, Puts, pageSize, placeOn, pageWith, pageWithAll}
 
 abbrev filled : List ℕ → ℕ → Page
 filled page end = record { bytes = page; end = end }
@@ -60,3 +62,12 @@ module _ (bytes before : List ℕ) (at : ℕ) (after after′ : List ℕ) (end e
   pub puts-end : end ≡ end′
   unfolding Puts
   puts-end = ap (λ (p : Page). p .end) (P ∙ sym Q)
+
+-- one byte where the page has room for it
+pub paste-step : (bytes before page : List ℕ) (at i : ℕ) → Left bytes i page (at + i) before at → i < length bytes → at + length bytes ≤ pageSize →
+    Left bytes (i + 1) (set page (at + i) (getD bytes i 0)) (at + (i + 1)) before at
+paste-step bytes before page at i L h room =
+    let here : at + i ≡ placeOn (at + i) = rw (lt-leb pageSize (at + i) (omega (arith, h, room))) in
+    let next : at + i + 1 ≡ at + (i + 1) = omega arith in
+    subst (λ n. Left bytes (i + 1) (set page (at + i) (getD bytes i 0)) n before at) next
+    (left-step bytes before page (set page (at + i) (getD bytes i 0)) at (at + i) (at + i + 1) i L h (put-one (getD bytes i 0) page (at + i) (at + i) here))
