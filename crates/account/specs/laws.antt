@@ -7,3 +7,4 @@ pub mod StandsLaws
 pub mod DataWritesLaws
 pub mod LinesLaws
 pub mod FollowsLaws
+pub mod ReadLaws

@@ -74,6 +74,10 @@ nextOf st part =
     (pick (cutAt v) (record { stream = restedOf st (st .totals) v; taken = n; reply = pick (wantsMore v) More Cut })
     (record { stream = restedOf st (counted (st .totals) r) []; taken = n; reply = Answered (r .answer) (r .byte) })))
 
+-- nothing more is read: the panel was refused, or a cut was met
+abbrev pub endedOf : Stream → Bool
+endedOf st = pick (st .refused) true (st .over)
+
 -- the end: bytes that still wait are a cut
 abbrev pub cutOf : Stream → Bool
 cutOf st = pick (st .over) true (ltb 0 (st .carry .len))

@@ -5,3 +5,4 @@ pub mod Live
 pub mod Acts
 pub mod Part
 pub mod Reading
+pub mod Read

@@ -8,6 +8,7 @@ pub mod RunLaws
 pub mod PartLaws
 pub mod StreamLaws
 pub mod NextLaws
+pub mod ReadLaws
 pub mod TableCase
 pub mod RecordKeeps
 pub mod HalfLaws

@@ -6,6 +6,7 @@ pub mod half;
 mod live;
 pub mod panel;
 mod part;
+pub mod reading;
 pub mod record;
 pub mod stream;
 mod totals;

@@ -124,7 +124,7 @@ impl Live {
         )
     }
 
-    fn half(self) -> Half
+    pub(crate) fn half(self) -> Half
         ensures { λ r. ⌜ r ≡ halfOf self ⌝ }
     {
         if self.waits < 2 {

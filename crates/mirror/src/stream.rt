@@ -1,16 +1,22 @@
 // The streaming form: a log in parts of any size, the bytes between two parts carried in the state. And a run, which is
 // one part.
 ghost use mathlib.Core.Path.{_≡_};
-ghost use Rattle.mirror.specs.Stream.{startOf, panelIn, numberIn, frontOf, restedOf, feedOf, endOf};
+ghost use Rattle.mirror.specs.Stream.{startOf, panelIn, numberIn, waitingBytes, frontOf, restedOf, feedOf, endOf, endedOf};
+ghost use Rattle.log.specs.Carry.{filledOf};
+ghost use Rattle.mirror.specs.engine.Read.{totalsRead, readOf};
 ghost use Rattle.mirror.specs.engine.Reading.{stoppedOf};
 ghost use Rattle.mirror.specs.Promise.{Replies, Runs, endNumber, runNumber};
 use crate::answer::Answer;
 use crate::count::COUNTS;
 use crate::count::raise;
 use crate::panel::Panel;
+use crate::reading::Reading;
 use crate::totals::Totals;
+use chip::sizes::DISPLAY_SIZE;
 use chip::sizes::ONE_LINE;
+use chip::sizes::PATTERN_SIZE;
 use log::carry::Carry;
+use log::carry::Filled;
 use log::carry::carried;
 use log::flaw::Flaw;
 use log::frame::Frame;
@@ -229,6 +235,44 @@ impl Stream {
                 byte: r.byte,
             },
         }
+    }
+
+    // Whether nothing more is read: the panel was refused, or a cut was met.
+    pub fn ended(self) -> bool
+        ensures { λ r. ⌜ r ≡ endedOf self ⌝ }
+    {
+        if self.refused {
+            return true;
+        }
+        self.over
+    }
+
+    // The bytes waiting, with just those of the part that make their record whole.
+    pub fn gathered(self, part: &[u8]) -> Filled
+        ensures { λ r. ⌜ r ≡ filledOf (waitingBytes self) (now (part .entry)) ⌝ }
+    {
+        let carry = self.carry;
+        carry.wanting().fill(part)
+    }
+
+    // What was read of it, record by record, with this tail unread. A panel that is not sound is refused, whoever put it
+    // together.
+    pub fn read(
+        self,
+        reading: Reading,
+        display: [u8; DISPLAY_SIZE],
+        pattern: [u8; PATTERN_SIZE],
+        counts: [u64; COUNTS],
+        tail: &[u8],
+    ) -> Stream
+        ensures { λ r. ⌜ r ≡ readOf self (totalsRead reading display pattern counts) (now (tail .entry)) ⌝ }
+    {
+        let totals = reading.totals(display, pattern, counts);
+        let panel = totals.panel;
+        if panel.sound() {
+            return self.rest(totals, tail);
+        }
+        Stream::start(panel)
     }
 
     // The end of the log.

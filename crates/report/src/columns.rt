@@ -1,5 +1,6 @@
 // A line of the report: docs/REPORT.md has its columns.
 use account::columns::Line;
+use account::columns::Lined;
 use account::columns::Meaning;
 use account::columns::Shown;
 use account::columns::What;
@@ -152,4 +153,12 @@ pub(crate) fn put_line(page: &mut [u8; PAGE], at: usize, line: Line) -> usize {
     let i = put(page, h, b"\t");
     let j = put_meaning(page, i, meaning);
     put(page, j, b"\n")
+}
+
+// The line that a record brings, if it brings one.
+pub(crate) fn put_lined(page: &mut [u8; PAGE], at: usize, lined: Lined) -> usize {
+    match lined {
+        Lined::Nothing => at,
+        Lined::Line(line) => put_line(page, at, line),
+    }
 }

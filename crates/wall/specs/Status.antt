@@ -8,8 +8,6 @@ use Rattle.log.specs.declared.frame.Frame.{Frame}
 use Rattle.log.specs.declared.frame.Frame.the-variants.{Cut, Bad, Transfer, Reset}
 use Rattle.mirror.specs.declared.answer.Answer.{Answer}
 use Rattle.mirror.specs.declared.answer.Answer.the-variants as Answer
-use Rattle.mirror.specs.declared.stream.Reply.{Reply}
-use Rattle.mirror.specs.declared.stream.Reply.the-variants as Reply
 use Rattle.wall.specs.declared.status.Last.{Last}
 use Rattle.wall.specs.declared.status.Last.the-variants.{Nothing, Answered}
 
@@ -71,14 +69,8 @@ abbrev pub lastLine : Last → List ℕ
 lastLine last = (108 ∷ 97 ∷ 115 ∷ 116 ∷ 32 ∷ 116 ∷ 114 ∷ 97 ∷ 110 ∷ 115 ∷ 102 ∷ 101 ∷ 114 ∷ 32 ∷ []) ++ (lastName last ++ 10 ∷ [])
 
 -- an answer is a transfer's where the record was one: a reset and a bad record are none
-abbrev pub repliedTo : Last → Reply → Last
-repliedTo last (Reply.Answered answer byte) = Answered answer
-repliedTo last Reply.More = last
-repliedTo last Reply.Cut = last
-repliedTo last Reply.Refused = last
-
-abbrev pub lastAfter : Last → Frame → Reply → Last
-lastAfter last Cut reply = last
-lastAfter last (Bad size) reply = last
-lastAfter last (Transfer time rs reads byte) reply = repliedTo last reply
-lastAfter last (Reset time) reply = last
+abbrev pub lastAfter : Last → Frame → Answer → Last
+lastAfter last Cut answer = last
+lastAfter last (Bad size) answer = last
+lastAfter last (Transfer time rs reads byte) answer = Answered answer
+lastAfter last (Reset time) answer = last

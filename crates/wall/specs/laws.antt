@@ -3,3 +3,4 @@ pub mod DrawLaws
 pub mod LookLaws
 pub mod StatusLaws
 pub mod WrittenLaws
+pub mod FollowLaws

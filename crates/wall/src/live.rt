@@ -1,17 +1,18 @@
 // The picture again and again, as the log comes. A picture and the three lines beneath it are gathered on a page, and on a
 // terminal drawn over the last ones.
 ghost use Prim.Native.Nat.{_≤_};
+use crate::follow::Followed;
+use crate::follow::follow_part;
 use crate::glass::Wanted;
 use crate::glass::put_picture;
 use crate::look::Look;
 use crate::look::alike;
 use crate::look::look_of;
 use crate::status::Last;
-use crate::status::last_after;
 use crate::status::put_answers;
 use crate::status::put_clock_line;
 use crate::status::put_last;
-use crate::watch::answered;
+use crate::watch::FOREVER;
 use check::same;
 use desk::bytes::Bytes;
 use desk::bytes::held;
@@ -26,12 +27,6 @@ use libc::STDOUT_FILENO;
 use mirror::panel::Panel;
 use mirror::stream::Stream;
 
-// What was read so far: the stream, and the answer to the last transfer.
-pub struct Listened {
-    stream: Stream,
-    last: Last,
-}
-
 // A picture: what it is made of, and its bytes.
 pub struct Drawn {
     look: Look,
@@ -44,27 +39,6 @@ pub struct Way {
     font: Bytes,
     wanted: Wanted,
     terminal: bool,
-}
-
-// Every record that a part makes whole.
-fn hear(start: Listened, part: &[u8]) -> Listened {
-    let mut stream = start.stream;
-    let mut last = start.last;
-    let mut at: usize = 0;
-    for _ in 0..u64::MAX {
-        let front = stream.front(&part[at..]);
-        let next = stream.next(&part[at..]);
-        let frame = front.frame;
-        let reply = next.reply;
-        let after = next.stream;
-        last = last_after(last, frame, reply);
-        stream = after;
-        at += next.taken;
-        if !answered(next) {
-            break;
-        }
-    }
-    Listened { stream, last }
 }
 
 fn drawn_of(panel: Panel, way: Way) -> Drawn {
@@ -84,7 +58,7 @@ fn same_pages(a: [u8; PAGE], end: usize, b: [u8; PAGE], other: usize) -> bool {
     same(&a[..m], &b[..n])
 }
 
-fn put_status(page: &mut [u8; PAGE], at: usize, heard: Listened) -> usize {
+fn put_status(page: &mut [u8; PAGE], at: usize, heard: Followed) -> usize {
     let last = heard.last;
     let stream = heard.stream;
     let run = stream.end();
@@ -168,7 +142,7 @@ fn write_lines(
     }
 }
 
-fn write_picture(drawn: Drawn, heard: Listened, terminal: bool, first: bool, changed: bool) {
+fn write_picture(drawn: Drawn, heard: Followed, terminal: bool, first: bool, changed: bool) {
     let mut page = drawn.page;
     let picture = drawn.end;
     let end = put_status(&mut page, picture, heard);
@@ -186,7 +160,7 @@ fn drawn_after(before: Drawn, panel: Panel, way: Way) -> Drawn {
 }
 
 // The next picture, written where it is another one.
-fn draw_again(before: Drawn, heard: Listened, way: Way) -> Drawn {
+fn draw_again(before: Drawn, heard: Followed, way: Way) -> Drawn {
     let stream = heard.stream;
     let drawn = drawn_after(before, stream.panel(), way);
     let page = drawn.page;
@@ -197,7 +171,7 @@ fn draw_again(before: Drawn, heard: Listened, way: Way) -> Drawn {
 }
 
 // The rest of standard input, after the first picture.
-fn draw_rest(first: Input, heard: Listened, drawn: Drawn, way: Way, block: &mut [u8]) {
+fn draw_rest(first: Input, heard: Followed, drawn: Drawn, way: Way, block: &mut [u8]) {
     let mut input = first;
     let mut heard = heard;
     let mut drawn = drawn;
@@ -205,7 +179,7 @@ fn draw_rest(first: Input, heard: Listened, drawn: Drawn, way: Way, block: &mut 
         input = input.read(block);
         let n = input.len;
         if n > 0 {
-            heard = hear(heard, &block[..n]);
+            heard = follow_part(heard, FOREVER, &block[..n]);
             drawn = draw_again(drawn, heard, way);
         }
     }
@@ -225,11 +199,12 @@ pub(crate) fn live(start: Stream, font: Bytes, wanted: Wanted) {
         return;
     }
     let n = held(&block, input.len);
-    let begun = Listened {
+    let begun = Followed {
         stream: start,
         last: Last::Nothing,
+        more: true,
     };
-    let heard = hear(begun, &block[..n]);
+    let heard = follow_part(begun, FOREVER, &block[..n]);
     let stream = heard.stream;
     let drawn = drawn_of(stream.panel(), way);
     write_picture(drawn, heard, terminal, true, true);

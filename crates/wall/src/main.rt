@@ -3,6 +3,7 @@ mod apart;
 mod bitmap;
 mod codes;
 mod draw;
+mod follow;
 mod font;
 mod glass;
 mod live;

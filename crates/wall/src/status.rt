@@ -3,7 +3,7 @@
 ghost use mathlib.Core.Path.{_≡_};
 ghost use Rattle.desk.specs.Clock.{PutsSome};
 ghost use Rattle.desk.specs.Page.{Puts};
-ghost use Rattle.wall.specs.Status.{AnswersLine, ClockLine, Count, lastAfter, lastLine, lastName, nameOf, repliedTo};
+ghost use Rattle.wall.specs.Status.{AnswersLine, ClockLine, Count, lastAfter, lastLine, lastName, nameOf};
 use desk::clock::put_clock;
 use desk::clock::put_number;
 use desk::page::PAGE;
@@ -11,7 +11,6 @@ use desk::page::put;
 use log::frame::Frame;
 use mirror::answer::Answer;
 use mirror::count::COUNTS;
-use mirror::stream::Reply;
 
 // The answer to the last transfer, where there was one.
 pub enum Last {
@@ -19,22 +18,11 @@ pub enum Last {
     Answered(Answer),
 }
 
-fn replied_to(last: Last, reply: Reply) -> Last
-    ensures { λ r. ⌜ r ≡ repliedTo last reply ⌝ }
-{
-    match reply {
-        Reply::Answered { answer, byte: _ } => Last::Answered(answer),
-        Reply::More => last,
-        Reply::Cut => last,
-        Reply::Refused => last,
-    }
-}
-
 // With one more record. A reset and a bad record are no transfers.
-pub(crate) fn last_after(last: Last, frame: Frame, reply: Reply) -> Last
-    ensures { λ r. ⌜ r ≡ lastAfter last frame reply ⌝ }
+pub(crate) fn last_after(last: Last, front: Frame, answer: Answer) -> Last
+    ensures { λ r. ⌜ r ≡ lastAfter last front answer ⌝ }
 {
-    match frame {
+    match front {
         Frame::Cut => last,
         Frame::Bad(_) => last,
         Frame::Transfer {
@@ -42,7 +30,7 @@ pub(crate) fn last_after(last: Last, frame: Frame, reply: Reply) -> Last
             rs: _,
             rw: _,
             data: _,
-        } => replied_to(last, reply),
+        } => Last::Answered(answer),
         Frame::Reset { time: _ } => last,
     }
 }

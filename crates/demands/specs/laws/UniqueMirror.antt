@@ -29,6 +29,15 @@ use Rattle.mirror.proofs.stream.Stream.number as stream·number
 use Rattle.mirror.proofs.stream.Stream.front as stream·front
 use Rattle.mirror.proofs.count.raise as count·raise
 use Rattle.mirror.proofs.count.tally as count·tally
+use Rattle.mirror.proofs.reading.Reading.answer as reading·answer
+use Rattle.mirror.proofs.reading.Reading.eight as reading·eight
+use Rattle.mirror.proofs.reading.Reading.half as reading·half
+use Rattle.mirror.proofs.reading.Reading.last as reading·last
+use Rattle.mirror.proofs.reading.Reading.number as reading·number
+use Rattle.mirror.proofs.reading.Reading.used as reading·used
+use Rattle.mirror.proofs.stream.Stream.ended as stream·ended
+use Rattle.mirror.proofs.stream.Stream.gathered as stream·gathered
+use Rattle.mirror.proofs.stream.Stream.read as stream·read
 use Rattle.demands.specs.Unique.{Determines, DeterminesAnswer, answer, equation}
 
 module _ {M : Type 1} (𝓤 : URA M) (H : Heap 𝓤) (A : Atoms 𝓤) (mem : Memory → SProp 𝓤) (run : Routine → Fun 𝓤) where
@@ -115,3 +124,39 @@ module _ {M : Type 1} (𝓤 : URA M) (H : Heap 𝓤) (A : Atoms 𝓤) (mem : Mem
   -- mirror::stream::Stream::front: r ≡ frontOf self (now (part .entry))
   pub stream-front : DeterminesAnswer 𝓤 stream·front.ended (stream·front.clauses 𝓤 H A mem run)
   stream-front = equation 𝓤 _ _ _ (λ κs a g r e. refl)
+
+  -- mirror::reading::Reading::answer: r ≡ answerRead self
+  pub reading-answer : DeterminesAnswer 𝓤 reading·answer.ended (reading·answer.clauses 𝓤 H A mem run)
+  reading-answer = equation 𝓤 _ _ _ (λ κs a g r e. refl)
+
+  -- mirror::reading::Reading::eight: r ≡ eightRead self
+  pub reading-eight : DeterminesAnswer 𝓤 reading·eight.ended (reading·eight.clauses 𝓤 H A mem run)
+  reading-eight = equation 𝓤 _ _ _ (λ κs a g r e. refl)
+
+  -- mirror::reading::Reading::half: r ≡ halfOf (self .live)
+  pub reading-half : DeterminesAnswer 𝓤 reading·half.ended (reading·half.clauses 𝓤 H A mem run)
+  reading-half = equation 𝓤 _ _ _ (λ κs a g r e. refl)
+
+  -- mirror::reading::Reading::last: r ≡ lastRead self
+  pub reading-last : DeterminesAnswer 𝓤 reading·last.ended (reading·last.clauses 𝓤 H A mem run)
+  reading-last = equation 𝓤 _ _ _ (λ κs a g r e. refl)
+
+  -- mirror::reading::Reading::number: r ≡ raised (self .records)
+  pub reading-number : DeterminesAnswer 𝓤 reading·number.ended (reading·number.clauses 𝓤 H A mem run)
+  reading-number = equation 𝓤 _ _ _ (λ κs a g r e. refl)
+
+  -- mirror::reading::Reading::used: r ≡ usedRead self
+  pub reading-used : DeterminesAnswer 𝓤 reading·used.ended (reading·used.clauses 𝓤 H A mem run)
+  reading-used = equation 𝓤 _ _ _ (λ κs a g r e. refl)
+
+  -- mirror::stream::Stream::ended: r ≡ endedOf self
+  pub stream-ended : DeterminesAnswer 𝓤 stream·ended.ended (stream·ended.clauses 𝓤 H A mem run)
+  stream-ended = equation 𝓤 _ _ _ (λ κs a g r e. refl)
+
+  -- mirror::stream::Stream::gathered: r ≡ filledOf (waitingBytes self) (now (part .entry))
+  pub stream-gathered : DeterminesAnswer 𝓤 stream·gathered.ended (stream·gathered.clauses 𝓤 H A mem run)
+  stream-gathered = equation 𝓤 _ _ _ (λ κs a g r e. refl)
+
+  -- mirror::stream::Stream::read: r ≡ readOf self (totalsRead reading display pattern counts) (now (tail .entry))
+  pub stream-read : DeterminesAnswer 𝓤 stream·read.ended (stream·read.clauses 𝓤 H A mem run)
+  stream-read = equation 𝓤 _ _ _ (λ κs a g r e. refl)

@@ -8,15 +8,14 @@ use borrow.Author.Tests.{eq-eqb, eqb-true}
 use lib.Dec.{eqb}
 use lib.ListN.{length}
 use Rattle.laws.specs.Pick.{pick}
-use Rattle.dots.specs.Landing.{Landing, dotsFrame}
+use Rattle.dots.specs.Landing.{dotsFrame}
 use Rattle.chip.specs.Sizes.{displaySize, linesOf}
 use Rattle.chip.specs.Written.{writtenIn}
 use Rattle.chip.specs.Address.{display}
 use Rattle.chip.specs.declared.address.Address.the-variants.{Display}
-use Rattle.chip.specs.declared.registers.Registers.{Registers}
 use Rattle.chip.specs.declared.sheet.Sheet.{Sheet}
 use Rattle.mirror.specs.Panel.{soundPanel}
-use Rattle.mirror.specs.Written.{WrittenPaper, writtenFor, walkOf}
+use Rattle.mirror.specs.Written.{WrittenPaper, walkOf}
 use Rattle.mirror.specs.declared.panel.Panel.{Panel}
 use Rattle.picture.specs.Pattern.{fontSize, tall, wide}
 use Rattle.picture.specs.Frame.{glass}

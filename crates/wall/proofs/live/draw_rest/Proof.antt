@@ -16,14 +16,14 @@ loop-holds c = search needs
 read-requires : tie.Need-read-requires Inv-loop μ-loop
 read-requires c κs = search needs
 
-slice-reshare-prefix-hear : tie.Need-slice-reshare-prefix-hear Inv-loop μ-loop
-slice-reshare-prefix-hear c = search needs
+slice-reshare-prefix-follow-part : tie.Need-slice-reshare-prefix-follow-part Inv-loop μ-loop
+slice-reshare-prefix-follow-part c = search needs
 
-slice-aggregate-hear : tie.Need-slice-aggregate-hear Inv-loop μ-loop
-slice-aggregate-hear c = search needs
+slice-aggregate-follow-part : tie.Need-slice-aggregate-follow-part Inv-loop μ-loop
+slice-aggregate-follow-part c = search needs
 
-hear-requires : tie.Need-hear-requires Inv-loop μ-loop
-hear-requires c κs = search needs
+follow-part-requires : tie.Need-follow-part-requires Inv-loop μ-loop
+follow-part-requires c κs = search needs
 
 draw-again-requires : tie.Need-draw-again-requires Inv-loop μ-loop
 draw-again-requires c κs = search needs
@@ -54,9 +54,9 @@ draw-rest-spec =
     μ-loop
     loop-holds
     read-requires
-    slice-reshare-prefix-hear
-    slice-aggregate-hear
-    hear-requires
+    slice-reshare-prefix-follow-part
+    slice-aggregate-follow-part
+    follow-part-requires
     draw-again-requires
     loop-less
     loop-again
