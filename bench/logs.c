@@ -1,6 +1,7 @@
 // logs KIND RECORDS CHIP: writes a log for the benchmark to standard output, for a box with the chip 6631 or 6635. Kinds: eight
-// (width 8, mostly taken writes, with polling), four (width 4, in halves), damage (random damage to eight), reads (width 8, a
-// third of it data reads, good and doubtful), writes (width 8, nearly all of it data writes into display memory).
+// (width 8, mostly taken writes, with polling; about every seventh record is ignored), ordinary (the same, but hardly ever in
+// haste), four (width 4, in halves), damage (random damage to eight), reads (width 8, a third of it data reads, good and
+// doubtful), writes (width 8, nearly all of it data writes into display memory).
 #include <stdint.h>
 #include <stdio.h>
 #include <stdlib.h>
@@ -16,6 +17,9 @@ static uint64_t next(void) {
 }
 
 static int damaged;
+
+// One Clear in so many is not waited for.
+static int hasty = 3;
 
 static void record(uint64_t time, int control, int byte) {
     uint8_t r[14] = {12, 0, 1, 0};
@@ -49,7 +53,7 @@ static transfer writing(int places) {
     } else if (what >= 97) {
         t.control = 0;
         t.byte = 1;
-        t.wait = next() % 3 ? 1700 : 100;
+        t.wait = next() % hasty ? 1700 : 100;
     }
     return t;
 }
@@ -91,6 +95,7 @@ int main(int argc, char **argv) {
     int places = strcmp(argv[3], "6635") ? 16 : 32;
     uint64_t time = 0;
     damaged = !strcmp(argv[1], "damage");
+    if (!strcmp(argv[1], "ordinary")) hasty = 200;
     if (four) record(time, 0, 0x20);
     while (records > 0) {
         transfer t = reads ? reading(places) : writes ? storing(places) : writing(places);
