@@ -2,11 +2,11 @@
 ghost use Rattle.std.specs.Prelude.{◌≡◌};
 ghost use Rattle.account.specs.Columns.{what_of, shown_at, shown_of, meaning_of, line_with, alone_line, plain_line};
 
-use log::flaw::Flaw;
+use framing::flaw::Flaw;
 use mirror::answer::Answer;
 
 // The report's column `what`.
-#[derive(Drop)]
+#[derive(Clone, Copy)]
 pub enum What {
     InstructionWrite,
     DataWrite,
@@ -17,7 +17,7 @@ pub enum What {
 }
 
 // Its column `byte`: none, one half by its byte, or a byte that is whole or joined.
-#[derive(Drop)]
+#[derive(Clone, Copy)]
 pub enum Shown {
     Nothing,
     Half(u8),
@@ -25,7 +25,7 @@ pub enum Shown {
 }
 
 // What its column `meaning` is taken from.
-#[derive(Drop)]
+#[derive(Clone, Copy)]
 pub enum Meaning {
     Nothing,
     Flaw(Flaw),
@@ -35,7 +35,7 @@ pub enum Meaning {
 }
 
 // A line of the report. There is no second half where `second` is 0, and no time of a bad record.
-#[derive(Drop)]
+#[derive(Clone, Copy)]
 pub struct Line {
     pub number: u64,
     pub second: u64,
@@ -47,14 +47,14 @@ pub struct Line {
 }
 
 // The line that a record brings, if it brings one.
-#[derive(Drop)]
+#[derive(Clone, Copy)]
 pub enum Lined {
     Nothing,
     Line(Line),
 }
 
 // A first half, and the number of its record.
-#[derive(Drop)]
+#[derive(Clone, Copy)]
 pub struct First {
     pub number: u64,
     pub time: u64,
@@ -64,7 +64,7 @@ pub struct First {
 }
 
 // A transfer that is complete: its record's number, that of its second half, its time and its byte.
-#[derive(Drop)]
+#[derive(Clone, Copy)]
 pub struct Begun {
     pub number: u64,
     pub second: u64,

@@ -6,13 +6,13 @@ ghost use Rattle.chip.specs.Address.{moved_display, moved_pattern, moved_address
 
 use crate::sizes::{DISPLAY_SIZE, PATTERN_SIZE, ROW_END, places};
 
-#[derive(Drop)]
+#[derive(Clone, Copy)]
 pub struct DisplayAddress(pub u8);
 
-#[derive(Drop)]
+#[derive(Clone, Copy)]
 pub struct PatternAddress(pub u8);
 
-#[derive(Drop)]
+#[derive(Clone, Copy)]
 pub enum Address {
     Display(DisplayAddress),
     Pattern(PatternAddress),

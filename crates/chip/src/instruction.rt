@@ -5,7 +5,7 @@ ghost use Rattle.chip.specs.Instruction.{decoded};
 use crate::address::{Address, DisplayAddress, PatternAddress};
 use crate::sizes::{FUNCTION_END, PATTERN_SIZE, places};
 
-#[derive(Drop)]
+#[derive(Clone, Copy)]
 pub enum Instruction {
     Nothing,
     Clear,

@@ -10,7 +10,7 @@ use crate::sizes::{DISPLAY_SIZE, PATTERN_SIZE, POSITIONS, SPACE, places};
 use crate::written::with_bit;
 
 // All of the sheet but its memories.
-#[derive(Drop)]
+#[derive(Clone, Copy)]
 pub struct Registers {
     // The chip's number, which no step changes.
     pub chip: u8,

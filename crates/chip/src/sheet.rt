@@ -10,7 +10,7 @@ use crate::sizes::{
 };
 use crate::written::agree;
 
-#[derive(Drop)]
+#[derive(Clone, Copy)]
 pub struct Sheet {
     pub registers: Registers,
     pub display: [u8; DISPLAY_SIZE],

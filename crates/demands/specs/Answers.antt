@@ -1,6 +1,6 @@
 -- The answers of a log, and the panel at its end: what every demand on a whole log is stated of.
 use Rattle.std.specs.Prelude.{ℕ, ◌≡◌, List, [], ◌∷◌, replicate}
-use Rattle.log.specs.Frames.{frames}
+use Rattle.framing.specs.Frames.{frames}
 use Rattle.mirror.specs.Answer.{number_of, count_places}
 use Rattle.mirror.specs.Run.{tallied}
 use Rattle.mirror.specs.Stream.{run_of}

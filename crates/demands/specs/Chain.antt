@@ -1,7 +1,7 @@
 -- ONE CHAIN FROM THEOREM TO FUNCTION: the answers that the theorems speak of are those that the code gives, whichever way it is called.
 use Rattle.std.specs.Prelude.{ℕ, zero, suc, ◌≡◌, true, List, [], ◌∷◌, ◌++◌, length, take, drop, eqb}
 use Rattle.laws.specs.Pick.{pick}
-use Rattle.log.specs.Frames.{joined}
+use Rattle.framing.specs.Frames.{joined}
 use Rattle.mirror.specs.Panel.{fresh_panel}
 use Rattle.mirror.specs.Table.{record_of}
 use Rattle.mirror.specs.Answers.{Typed}

@@ -3,9 +3,9 @@
 -- What is carried out is read off the log and its answers alone.
 use Rattle.std.specs.Prelude.{ℕ, ◌+◌, ◌*◌, ◌%◌, ◌/◌, ◌≡◌, Bool, List, [], ◌∷◌, ◌++◌, eqb}
 use Rattle.laws.specs.Pick.{pick}
-use Rattle.log.specs.Frame.{frame_of}
-use Rattle.log.specs.declared.frame.Frame.{Frame}
-use Rattle.log.specs.declared.frame.Frame.TheVariants as frame
+use Rattle.framing.specs.Frame.{frame_of}
+use Rattle.framing.specs.declared.frame.Frame.{Frame}
+use Rattle.framing.specs.declared.frame.Frame.TheVariants as frame
 use Rattle.chip.specs.Sheet.{fresh_sheet}
 use Rattle.chip.specs.Step.{obeyed, written, passed}
 use Rattle.chip.specs.declared.sheet.Sheet.{Sheet}

@@ -2,9 +2,9 @@
 use Rattle.std.specs.Prelude.{ℕ, ◌+◌, ◌^◌, ◌≤◌, ◌<◌, ◌≡◌, Bool, true, false, not, ◌&&◌, ◌||◌, List, [], ◌∷◌, length, get_or, eqb}
 use Rattle.std.specs.Bool.{beq}
 use Rattle.laws.specs.Pick.{pick}
-use Rattle.log.specs.Frame.{frame_of}
-use Rattle.log.specs.Frames.{records_of}
-use Rattle.log.specs.declared.frame.Frame.TheVariants.{Transfer}
+use Rattle.framing.specs.Frame.{frame_of}
+use Rattle.framing.specs.Frames.{records_of}
+use Rattle.framing.specs.declared.frame.Frame.TheVariants.{Transfer}
 use Rattle.mirror.specs.Answer.{number_of, count_places, place_of}
 use Rattle.mirror.specs.Panel.{sound_panel}
 use Rattle.mirror.specs.Words.{joined_of, free}

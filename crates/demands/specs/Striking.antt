@@ -3,7 +3,7 @@
 use Rattle.std.specs.Prelude.{ℕ, ◌≡◌, true, false, ◌||◌, eqb}
 use mathlib.Core.List.{List, [], ◌∷◌, Sublistᴰ}
 use Rattle.laws.specs.Pick.{pick}
-use Rattle.log.specs.Frames.{frames, tail, joined}
+use Rattle.framing.specs.Frames.{frames, tail, joined}
 use Rattle.mirror.specs.Answer.{number_of, carried_out}
 use Rattle.mirror.specs.Panel.{fresh_panel}
 use Rattle.mirror.specs.Answers.{Typed}

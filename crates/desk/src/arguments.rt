@@ -11,7 +11,7 @@ pub const GROUPS: usize = 11;
 
 // Whether the program is to go on; the place of the next argument; and of each group that it takes, in their order, the
 // place after its name, 0 for one that was not given.
-#[derive(Drop)]
+#[derive(Clone, Copy)]
 pub struct Given {
     pub ok: bool,
     next: usize,
@@ -19,7 +19,7 @@ pub struct Given {
 }
 
 // Which group a name begins, GROUPS for none, and how many words follow it.
-#[derive(Drop)]
+#[derive(Clone, Copy)]
 struct Group {
     which: usize,
     words: usize,

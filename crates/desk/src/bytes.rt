@@ -6,7 +6,7 @@ ghost use Rattle.desk.specs.Bytes.{HeldIn};
 pub const ROOM: usize = 4096;
 
 // The first `len` of `bytes`; not ok where a file could not be read, and then a line was written.
-#[derive(Drop)]
+#[derive(Clone, Copy)]
 pub struct Bytes {
     pub ok: bool,
     pub bytes: [u8; ROOM],
@@ -14,7 +14,7 @@ pub struct Bytes {
 }
 
 // How much of a buffer was filled, and whether every read went well.
-#[derive(Drop)]
+#[derive(Clone, Copy)]
 struct Filled {
     ok: bool,
     len: usize,

@@ -7,7 +7,7 @@ use check::same;
 use chip::sizes::{ONE_LINE, TWO_LINES};
 
 // A chip's number; not ok where the word is no chip's name, and then the number is 0.
-#[derive(Drop)]
+#[derive(Clone, Copy)]
 pub struct Named {
     pub ok: bool,
     pub chip: u8,

@@ -22,7 +22,7 @@ const WITHIN: usize = 13;
 const CLOCK: usize = DIGITS + WITHIN;
 
 // The digits of a number: those of the array from a place on.
-#[derive(Drop)]
+#[derive(Clone, Copy)]
 struct Digits {
     bytes: [u8; DIGITS],
     from: usize,

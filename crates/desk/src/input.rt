@@ -9,7 +9,7 @@ pub const BLOCK: usize = 32768;
 
 // How many reads may follow, 0 after the last; how many bytes the last one brought; and whether it failed. A proved loop
 // has to end, and nothing says that an input does: so reads are counted down from a number that no run uses up.
-#[derive(Drop)]
+#[derive(Clone, Copy)]
 pub struct Input {
     pub left: u64,
     pub len: usize,

@@ -4,7 +4,7 @@ ghost use Rattle.desk.specs.Number.{decimal_of};
 ghost use Rattle.desk.specs.engine.Number.{then_of};
 
 // A number; not ok where there is none, and then its value is 0.
-#[derive(Drop)]
+#[derive(Clone, Copy)]
 pub struct Number {
     pub ok: bool,
     pub value: u64,

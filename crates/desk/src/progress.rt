@@ -17,7 +17,7 @@ const WHILE: u64 = 250000;
 // Whether anything is shown, whether a line stands there now, and whether the print goes to a terminal too; the bytes that
 // lie before the next read, and the size of the file, 0 where that is not known; and the work after which the line is shown
 // next.
-#[derive(Drop)]
+#[derive(Clone, Copy)]
 pub struct Progress {
     shown: bool,
     stands: bool,

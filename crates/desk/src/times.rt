@@ -15,7 +15,7 @@ pub const SHORT: u16 = 40;
 const LONGEST: u64 = 65535;
 
 // Three times; not ok where a word is no time, and then they are 0.
-#[derive(Drop)]
+#[derive(Clone, Copy)]
 pub struct Timed {
     pub ok: bool,
     pub reset: u16,

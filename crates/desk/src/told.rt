@@ -3,7 +3,7 @@ use crate::chips::chip_at;
 use crate::times::{NO_TIMES, Timed, times_at};
 
 // Not ok where something was said that is not taken: then one line was written.
-#[derive(Drop)]
+#[derive(Clone, Copy)]
 pub struct Told {
     pub ok: bool,
     pub chip: u8,

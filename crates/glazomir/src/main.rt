@@ -1,4 +1,5 @@
 // The mirror program: reads a log on standard input, and prints the counts, the address and the codes.
+#![tactic(auto)]
 use chip::address::Address;
 use chip::registers::Registers;
 use chip::sizes::{DISPLAY_SIZE, places};
@@ -16,7 +17,7 @@ const CHIP: usize = 0;
 const TIMES: usize = 1;
 
 // What the whole of standard input leaves, and whether the reading failed.
-#[derive(Drop)]
+#[derive(Clone, Copy)]
 struct Fed {
     stream: Stream,
     failed: bool,

@@ -3,8 +3,8 @@
 use Rattle.std.specs.Prelude.{ℕ, ◌+◌, ◌*◌, ◌/◌, ◌≡◌, Bool, true, false, not, ◌&&◌, ◌||◌, List, [], ◌∷◌, ltb, eqb}
 use Rattle.std.specs.Bool.{beq}
 use Rattle.laws.specs.Pick.{pick}
-use Rattle.log.specs.Frame.{time_of, data_of, rs_of, rw_of, is_transfer, is_reset, cut_at, bad_at}
-use Rattle.log.specs.Frames.{frames}
+use Rattle.framing.specs.Frame.{time_of, data_of, rs_of, rw_of, is_transfer, is_reset, cut_at, bad_at}
+use Rattle.framing.specs.Frames.{frames}
 use Rattle.chip.specs.Instruction.{is_set}
 use Rattle.mirror.specs.Answer.{carried_out}
 use Rattle.mirror.specs.Panel.{fresh_panel}

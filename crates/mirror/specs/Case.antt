@@ -1,6 +1,6 @@
 -- EACH ANSWER IN ITS CASE and in no other (document 01, "Answer numbers"; doubtful, document 02, wish 2): what holds of panel and log where the table gives a number.
 use Rattle.std.specs.Prelude.{ℕ, ◌≡◌, true, false, List}
-use Rattle.log.specs.Frame.{is_reset, cut_at, bad_at}
+use Rattle.framing.specs.Frame.{is_reset, cut_at, bad_at}
 use Rattle.mirror.specs.Panel.{sound_panel}
 use Rattle.mirror.specs.Table.{is_back, tears, ignores, is_none, is_first, is_status, is_doubtful}
 use Rattle.mirror.specs.declared.panel.Panel.{Panel}

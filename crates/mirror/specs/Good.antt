@@ -1,7 +1,7 @@
 -- WHETHER THE NEXT READ IS GOOD (document 02, wish 2): what a record does to it, clause by clause, and what a data read is then answered.
 use Rattle.std.specs.Prelude.{ℕ, ◌*◌, ◌<◌, ◌≤◌, ◌≡◌, Bool, true, false, ◌||◌, List, eqb}
 use Rattle.laws.specs.Pick.{pick}
-use Rattle.log.specs.Frame.{rs_of, rw_of, is_transfer, is_reset}
+use Rattle.framing.specs.Frame.{rs_of, rw_of, is_transfer, is_reset}
 use Rattle.chip.specs.Address.{in_display}
 use Rattle.mirror.specs.Answer.{carried_out}
 use Rattle.mirror.specs.Panel.{fresh_panel}

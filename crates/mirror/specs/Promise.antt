@@ -2,9 +2,9 @@
 use Rattle.std.specs.Prelude.{ℕ, ◌≡◌, Bool, true, false, not, List, ltb, length, replicate}
 use Rattle.std.proofs.Math.Option.{Option, none, some}
 use Rattle.laws.specs.Pick.{pick}
-use Rattle.log.specs.Frame.{wants_more}
-use Rattle.log.specs.Frames.{frames, tail}
-use Rattle.log.specs.Carry.{filled}
+use Rattle.framing.specs.Frame.{wants_more}
+use Rattle.framing.specs.Frames.{frames, tail}
+use Rattle.framing.specs.Carry.{filled}
 use Rattle.mirror.specs.Answer.{number_of, count_places, Paper, paper}
 use Rattle.mirror.specs.Panel.{sound_panel}
 use Rattle.mirror.specs.Table.{number_for, byte_for, Tabled, record_of}

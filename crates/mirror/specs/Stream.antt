@@ -1,10 +1,10 @@
 -- The streaming form: a log in parts of any size (the same run, read part by part).
 use Rattle.std.specs.Prelude.{ℕ, ◌+◌, Bool, true, false, not, List, [], ◌++◌, length, replicate, ltb}
 use Rattle.laws.specs.Pick.{pick}
-use Rattle.log.specs.Frame.{frame_of, cut_at, wants_more}
-use Rattle.log.specs.Frames.{frames, tail, records_of}
-use Rattle.log.specs.Flaw.{flaw_of}
-use Rattle.log.specs.Carry.{carried_of, carry_of, wanting_of, more, filled}
+use Rattle.framing.specs.Frame.{frame_of, cut_at, wants_more}
+use Rattle.framing.specs.Frames.{frames, tail, records_of}
+use Rattle.framing.specs.Flaw.{flaw_of}
+use Rattle.framing.specs.Carry.{carried_of, carry_of, wanting_of, more, filled}
 use Rattle.chip.specs.Sizes.{one_line}
 use Rattle.mirror.specs.Answer.{count_places}
 use Rattle.mirror.specs.Panel.{sound_panel, fresh_panel}

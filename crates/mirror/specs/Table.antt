@@ -3,7 +3,7 @@
 use Rattle.std.specs.Prelude.{ℕ, ◌*◌, ◌%◌, ◌/◌, ◌≡◌, Bool, true, false, not, ◌&&◌, ◌||◌, List, ltb, leb, eqb}
 use Rattle.std.specs.Bool.{beq}
 use Rattle.laws.specs.Pick.{pick}
-use Rattle.log.specs.Frame.{time_of, data_of, rs_of, rw_of, is_transfer, is_reset, record_size, cut_at, bad_at}
+use Rattle.framing.specs.Frame.{time_of, data_of, rs_of, rw_of, is_transfer, is_reset, record_size, cut_at, bad_at}
 use Rattle.chip.specs.Sheet.{fresh_sheet}
 use Rattle.chip.specs.Step.{obeyed, written, passed}
 use Rattle.chip.specs.declared.sheet.Sheet.{Sheet}

@@ -3,7 +3,7 @@ use Rattle.std.specs.Prelude.{ℕ, ◌%◌, ◌<◌, ◌≤◌, ◌≡◌, Bool,
 use Rattle.std.proofs.Math.Option.{Option, none, some}
 use Rattle.laws.specs.Pick.{pick}
 use Rattle.laws.specs.Bit.{bit, one}
-use Rattle.log.specs.Frame.{is_reset}
+use Rattle.framing.specs.Frame.{is_reset}
 use Rattle.chip.specs.Sizes.{places_of, display_size}
 use Rattle.chip.specs.Written.{unblank, is_written, written_in}
 use Rattle.chip.specs.declared.address.DisplayAddress.{DisplayAddress}

@@ -7,7 +7,7 @@ ghost use Rattle.mirror.specs.engine.Flat.{patterned_of, display_part, pattern_p
 use chip::address::{Address, DisplayAddress, PatternAddress};
 use chip::registers::Registers;
 
-#[derive(Drop)]
+#[derive(Clone, Copy)]
 pub struct Modes {
     pub up: bool,
     pub follow: bool,

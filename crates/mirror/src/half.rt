@@ -1,5 +1,5 @@
 // The waiting half: one state has one writing.
-#[derive(Drop)]
+#[derive(Clone, Copy)]
 pub enum Half {
     Empty,
     // A first half that came while the chip was busy.

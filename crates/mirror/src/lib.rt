@@ -1,4 +1,5 @@
 // The mirror: the panel, which is the sheet's machine with a clock and at most one waiting half, and its answers.
+#![tactic(auto)]
 pub mod answer;
 pub mod count;
 mod flat;

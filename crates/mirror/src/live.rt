@@ -13,7 +13,7 @@ use chip::registers::Registers;
 use chip::sheet::Sheet;
 use chip::sizes::{DISPLAY_SIZE, PATTERN_SIZE};
 
-#[derive(Drop)]
+#[derive(Clone, Copy)]
 pub struct Live {
     // The chip's number, which no record changes.
     pub chip: u8,

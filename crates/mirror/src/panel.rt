@@ -6,14 +6,14 @@ use crate::half::Half;
 use chip::sheet::Sheet;
 
 // Microseconds.
-#[derive(Drop)]
+#[derive(Clone, Copy)]
 pub struct Times {
     pub reset: u16,
     pub long: u16,
     pub short: u16,
 }
 
-#[derive(Drop)]
+#[derive(Clone, Copy)]
 pub struct Panel {
     pub sheet: Sheet,
     pub busy: u64,

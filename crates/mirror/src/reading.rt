@@ -14,7 +14,7 @@ use crate::totals::Totals;
 use chip::sizes::{DISPLAY_SIZE, PATTERN_SIZE};
 
 // Nobody outside can look into one. Two that stand for the same totals and were answered the same say the same.
-#[derive(Drop)]
+#[derive(Clone, Copy)]
 pub struct Reading {
     live: Live,
     times: Times,

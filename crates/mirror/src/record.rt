@@ -5,7 +5,7 @@ use crate::answer::Answer;
 use crate::panel::Panel;
 
 // The next panel, with the answer, the bus byte and the bytes used beside it.
-#[derive(Drop)]
+#[derive(Clone, Copy)]
 pub struct Recorded {
     pub panel: Panel,
     pub answer: Answer,

@@ -2,7 +2,7 @@
 // one part.
 ghost use Rattle.std.specs.Prelude.{◌≡◌};
 ghost use Rattle.mirror.specs.Stream.{start_of, panel_in, number_in, waiting_bytes, front_of, rested_of, feed_of, end_of, ended_of};
-ghost use Rattle.log.specs.Carry.{filled_of};
+ghost use Rattle.framing.specs.Carry.{filled_of};
 ghost use Rattle.mirror.specs.engine.Read.{totals_read, read_of};
 ghost use Rattle.mirror.specs.engine.Reading.{stopped_of};
 ghost use Rattle.mirror.specs.Promise.{Replies, Runs, end_number, run_number};
@@ -13,13 +13,13 @@ use crate::panel::Panel;
 use crate::reading::Reading;
 use crate::totals::Totals;
 use chip::sizes::{DISPLAY_SIZE, ONE_LINE, PATTERN_SIZE};
-use log::carry::{Carry, Filled, carried};
-use log::flaw::Flaw;
-use log::frame::Frame;
-use log::front::wants_more;
+use framing::carry::{Carry, Filled, carried};
+use framing::flaw::Flaw;
+use framing::frame::Frame;
+use framing::front::wants_more;
 
 // Nobody outside can put one together, so its panel is sound or was refused.
-#[derive(Drop)]
+#[derive(Clone, Copy)]
 pub struct Stream {
     totals: Totals,
     carry: Carry,
@@ -30,7 +30,7 @@ pub struct Stream {
     refused: bool,
 }
 
-#[derive(Drop)]
+#[derive(Clone, Copy)]
 pub struct Run {
     pub panel: Panel,
     pub counts: [u64; COUNTS],
@@ -40,7 +40,7 @@ pub struct Run {
 }
 
 // What a call for one answer comes to: the answer; more bytes wanted; a cut, or a panel that was refused: these two are final.
-#[derive(Drop)]
+#[derive(Clone, Copy)]
 pub enum Reply {
     Answered { answer: Answer, byte: u8 },
     More,
@@ -49,7 +49,7 @@ pub enum Reply {
 }
 
 // The stream after it, and how many bytes of the part were taken.
-#[derive(Drop)]
+#[derive(Clone, Copy)]
 pub struct Next {
     pub stream: Stream,
     pub taken: usize,
@@ -57,7 +57,7 @@ pub struct Next {
 }
 
 // A record, and what is wrong with it where it is bad.
-#[derive(Drop)]
+#[derive(Clone, Copy)]
 pub struct Front {
     pub frame: Frame,
     pub flaw: Flaw,

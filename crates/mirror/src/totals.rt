@@ -11,7 +11,7 @@ use crate::part::{added, bump, plus};
 use crate::record::Recorded;
 
 // The panel, the counts, each at its answer's place, and the number of records.
-#[derive(Drop)]
+#[derive(Clone, Copy)]
 pub struct Totals {
     pub panel: Panel,
     pub counts: [u64; COUNTS],
@@ -19,7 +19,7 @@ pub struct Totals {
 }
 
 // The totals after the whole records at the front of a log, and how many bytes these are.
-#[derive(Drop)]
+#[derive(Clone, Copy)]
 pub struct Consumed {
     pub totals: Totals,
     pub at: usize,

@@ -3,7 +3,7 @@
 // and one that is not are told apart where they are answered, so that each answer is a constant there (docs/DECISIONS.md, "Speed").
 ghost use Rattle.std.specs.Prelude.{◌≡◌, ◌+◌, ◌*◌, ◌/◌, ◌%◌, ◌<◌, leb};
 ghost use Rattle.laws.specs.Pick.{pick};
-ghost use Rattle.log.specs.Frame.{frame_of};
+ghost use Rattle.framing.specs.Frame.{frame_of};
 ghost use Rattle.mirror.specs.Panel.{time_end};
 ghost use Rattle.mirror.specs.engine.Record.{transferred, answered};
 ghost use Rattle.mirror.specs.engine.Live.{half_of, panel_of, recorded_of};
@@ -15,8 +15,8 @@ use crate::panel::{Panel, Times};
 use crate::record::Recorded;
 use chip::registers::Registers;
 use chip::sizes::{DISPLAY_SIZE, PATTERN_SIZE};
-use log::frame::Frame;
-use log::front::frame;
+use framing::frame::Frame;
+use framing::front::frame;
 
 impl Live {
     // Whether the chip takes a byte that this transfer completes: written whole while it is free, or the second half of a

@@ -4,7 +4,7 @@ ghost use Rattle.mirror.specs.Written.{Tells, written_refusal};
 
 use crate::panel::Panel;
 
-#[derive(Drop)]
+#[derive(Clone, Copy)]
 pub enum PlacesWritten {
     // One bit for each display address, the lowest for address 0: 1 exactly when its byte isn't 20h.
     Bits(u32),

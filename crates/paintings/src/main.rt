@@ -1,5 +1,6 @@
 // Paints the panel that a log leaves a hundred thousand times, for the benchmark: prints the lit dots of all paintings
 // (modulo a prime) and the last frame. Each painting has another shift, and every second one a dark blink.
+#![tactic(auto)]
 ghost use Rattle.std.specs.Prelude.{◌≡◌, length};
 ghost use Rattle.picture.specs.Frame.{most_frame_size};
 

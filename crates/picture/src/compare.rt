@@ -5,7 +5,7 @@ ghost use Rattle.picture.specs.Compare.{Compares, compare_refusal};
 use crate::frame::{COLUMNS, dot_at, frame_size, rows};
 use chip::sizes::known;
 
-#[derive(Drop)]
+#[derive(Clone, Copy)]
 pub enum Compared {
     // The first dot, by rows, at which the frames differ.
     At { row: usize, column: usize },

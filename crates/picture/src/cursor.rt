@@ -6,7 +6,7 @@ use chip::address::Address;
 use chip::registers::Registers;
 use chip::sizes::{POSITIONS, lines};
 
-#[derive(Drop)]
+#[derive(Clone, Copy)]
 pub enum Cursor {
     // No cursor is shown.
     Off,

@@ -17,7 +17,7 @@ const ROW_BYTES: usize = COLUMNS / 8;
 // The bytes of the largest frame.
 pub const MOST_FRAME_SIZE: usize = MOST_LINES * TALL * ROW_BYTES;
 
-#[derive(Drop)]
+#[derive(Clone, Copy)]
 pub struct Place {
     pub byte: usize,
     pub bit: usize,

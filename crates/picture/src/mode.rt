@@ -13,7 +13,7 @@ use chip::sizes::lines;
 use mirror::panel::Panel;
 
 // A chip's glass, turned in mode B.
-#[derive(Drop)]
+#[derive(Clone, Copy)]
 pub(crate) struct Wiring {
     pub(crate) chip: u8,
     pub(crate) turned: bool,

@@ -19,7 +19,7 @@ use mirror::panel::Panel;
 
 const CURSOR_ROW: usize = 7;
 
-#[derive(Drop)]
+#[derive(Clone, Copy)]
 pub enum Painted {
     // How many dots are lit.
     Lit(usize),

@@ -3,7 +3,7 @@
 use account::columns::{Line, Lined, Meaning, Shown, What};
 use desk::clock::{put_clock_here, put_number_here};
 use desk::page::{PAGE, put_here, room_for};
-use log::flaw::Flaw;
+use framing::flaw::Flaw;
 use mirror::answer::Answer;
 
 // More than any line has. The longest has 155 bytes: three numbers of 20 digits, a clock of 33, `instruction-write`,

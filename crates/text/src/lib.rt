@@ -1,4 +1,5 @@
 // How the programs write a byte.
+#![tactic(auto)]
 ghost use Rattle.std.specs.Prelude.{◌≡◌};
 ghost use Rattle.text.specs.Hex.{digit_of, hex_of};
 

@@ -2,7 +2,7 @@
 use Rattle.std.specs.Prelude.{ℕ, ◌+◌, ◌*◌, ◌^◌, Bool, false, ◌&&◌, ◌||◌, List, ◌==◌, nat_lt, slice_index}
 use Rattle.laws.specs.Pick.{pick}
 use Rattle.dots.specs.Table.{table}
-use Rattle.log.specs.Frame.{num16, num64}
+use Rattle.framing.specs.Frame.{num16, num64}
 use Rattle.chip.specs.Sizes.{display_size, pattern_size}
 use Rattle.chip.specs.Address.{display, pattern}
 use Rattle.chip.specs.declared.address.Address.{Address}

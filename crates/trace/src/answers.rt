@@ -9,7 +9,7 @@ use mirror::stream::{Reply, Run, Stream};
 
 // What the whole of standard input leaves: the run; the number of the answer that ended it, 0 where none did; and
 // whether the reading failed.
-#[derive(Drop)]
+#[derive(Clone, Copy)]
 pub struct Done {
     pub run: Run,
     pub ended: u8,

@@ -1,4 +1,5 @@
 // Prints everything that a test or a doubtful colleague wants to see of a log: docs/TRACE.md has the print.
+#![tactic(auto)]
 mod answers;
 mod frames;
 mod panel_file;
@@ -37,14 +38,14 @@ const FRAMES: usize = 5;
 const RECORDS: usize = 6;
 
 // A panel to start from, or none where it could not be had; then a line was written.
-#[derive(Drop)]
+#[derive(Clone, Copy)]
 struct Started {
     ok: bool,
     panel: Panel,
 }
 
 // What the painter and the comparison are lent; the two frames only where they were named.
-#[derive(Drop)]
+#[derive(Clone, Copy)]
 struct Lent {
     font: Bytes,
     size: usize,

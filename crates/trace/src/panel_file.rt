@@ -1,6 +1,6 @@
 // A panel file: 106 bytes, as docs/TRACE.md lays them out.
 ghost use Rattle.std.specs.Prelude.{◌≡◌, ◌<◌};
-ghost use Rattle.log.specs.engine.Reading.{Byte, Num16, Num64};
+ghost use Rattle.framing.specs.engine.Reading.{Byte, Num16, Num64};
 ghost use Rattle.trace.specs.PanelFile.{address_in, bits_fit, display_in, fits_in, half_holds, half_in, file_panel, num32, pattern_in, registers_in};
 
 use chip::address::{Address, DisplayAddress, PatternAddress};

@@ -6,7 +6,7 @@ use crate::answers::{Done, answer_all, put_line};
 use desk::input::Input;
 use desk::page::{PAGE, write_out};
 use desk::progress::Progress;
-use log::front::wants_more;
+use framing::front::wants_more;
 use mirror::answer::Answer;
 use mirror::count::{COUNTS, raise, tally};
 use mirror::panel::Panel;
@@ -15,7 +15,7 @@ use mirror::stream::{Run, Stream};
 
 // The panel that the last record left, and the counts so far; the number of the answer that ended the reading, 0 where
 // none did; and how many bytes of the block were used.
-#[derive(Drop)]
+#[derive(Clone, Copy)]
 struct Tally {
     panel: Panel,
     counts: [u64; COUNTS],

@@ -1,8 +1,8 @@
 -- The three lines of a living picture that tell of the log (docs/WALL.md, "As the log comes").
 use Rattle.std.specs.Prelude.{ℕ, ◌≡◌, List, [], ◌∷◌, ◌++◌, get_or}
 use Rattle.desk.specs.Clock.{Clock, Decimal}
-use Rattle.log.specs.declared.frame.Frame.{Frame}
-use Rattle.log.specs.declared.frame.Frame.TheVariants.{Cut, Bad, Transfer, Reset}
+use Rattle.framing.specs.declared.frame.Frame.{Frame}
+use Rattle.framing.specs.declared.frame.Frame.TheVariants.{Cut, Bad, Transfer, Reset}
 use Rattle.mirror.specs.declared.answer.Answer.{Answer}
 use Rattle.mirror.specs.declared.answer.Answer.TheVariants as Answer
 use Rattle.wall.specs.declared.status.Last.{Last}

@@ -20,7 +20,7 @@ use picture::paint::paint;
 
 // How the glass is shown: as a bitmap, for browsers or drawn, by marks or by blocks, its cells apart or not, with the blink
 // dark or light, in mode A or as it is.
-#[derive(Drop)]
+#[derive(Clone, Copy)]
 pub(crate) struct Wanted {
     pub bitmap: bool,
     pub svg: bool,

@@ -18,7 +18,7 @@ use mirror::panel::Panel;
 use mirror::stream::Stream;
 
 // A picture: what it is made of, and its bytes.
-#[derive(Drop)]
+#[derive(Clone, Copy)]
 pub struct Drawn {
     look: Look,
     page: [u8; PAGE],
@@ -26,7 +26,7 @@ pub struct Drawn {
 }
 
 // How the pictures are written: with this font, in this form, to a terminal or not.
-#[derive(Drop)]
+#[derive(Clone, Copy)]
 pub struct Way {
     font: Bytes,
     wanted: Wanted,

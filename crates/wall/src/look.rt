@@ -8,7 +8,7 @@ use chip::sheet::Sheet;
 use chip::sizes::{DISPLAY_SIZE, PATTERN_SIZE};
 use picture::cursor::{Cursor, shown};
 
-#[derive(Drop)]
+#[derive(Clone, Copy)]
 pub struct Look {
     pub chip: u8,
     pub shift: u8,

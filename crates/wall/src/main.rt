@@ -1,4 +1,5 @@
 // What the glass showed: reads a log on standard input, and draws the panel as it then stands.
+#![tactic(auto)]
 mod apart;
 mod bitmap;
 mod codes;

@@ -9,7 +9,7 @@ use mirror::stream::Stream;
 pub const FOREVER: u64 = 281474976710656;
 
 // The stream so far, whether the time may still be ahead, and whether the reading failed.
-#[derive(Drop)]
+#[derive(Clone, Copy)]
 pub struct Seen {
     pub stream: Stream,
     pub more: bool,

@@ -1,6 +1,6 @@
 -- THE TABLE OF ANSWERS (document 01, "The log" and "Answer numbers"): both sides of every bound, and which of two answers comes first.
 use Rattle.std.specs.Prelude.{ℕ, ◌+◌, ◌/◌, ◌%◌, refl, List, [], ◌∷◌, ◌++◌, map, replicate}
-use Rattle.log.specs.Frame.{frame_of, size_of}
+use Rattle.framing.specs.Frame.{frame_of, size_of}
 use Rattle.mirror.specs.declared.half.Half.TheVariants.{Empty}
 use Rattle.mirror.specs.declared.panel.Panel.{Panel}
 use Rattle.demands.specs.cases.Logs.{instruct_at, write_at, status_at, read_at, transfer_at, reset_at, bad_record}

@@ -3,8 +3,8 @@ use Rattle.std.specs.Prelude.{ℕ, zero, suc, ◌%◌, ◌/◌, ◌≡◌, refl,
 use Rattle.std.proofs.Common.{arith, ltb-true}
 use Rattle.std.proofs.lemmas.Bool.{false≢true}
 use Rattle.laws.specs.Bit.{pack}
-use Rattle.log.specs.Frame.{num16, num64, cut_at, bad_at, frame_of}
-use Rattle.log.specs.Frames.{pieces_from}
+use Rattle.framing.specs.Frame.{num16, num64, cut_at, bad_at, frame_of}
+use Rattle.framing.specs.Frames.{pieces_from}
 use Rattle.chip.specs.Sound.{faultless}
 use Rattle.mirror.specs.Panel.{fresh_panel}
 use Rattle.mirror.specs.Answers.{ByteLog, Typed, Proper}

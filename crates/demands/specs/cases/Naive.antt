@@ -2,7 +2,7 @@
 use Rattle.std.specs.Prelude.{ℕ, ◌≡◌, refl, Bool, true, List, [], ◌∷◌, ◌++◌, get_or, ltb, eqb}
 use Rattle.std.proofs.Common.{arith, ap}
 use Rattle.laws.specs.Pick.{pick}
-use Rattle.log.specs.Frames.{joined}
+use Rattle.framing.specs.Frames.{joined}
 use Rattle.chip.specs.Address.{address_number}
 use Rattle.chip.specs.declared.sheet.Sheet.{Sheet}
 use Rattle.mirror.specs.Answer.{number_of}

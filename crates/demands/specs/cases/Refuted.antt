@@ -3,7 +3,7 @@ use Rattle.std.specs.Prelude.{ℕ, ◌≡◌, refl, Bool, true, false, List, [],
 use Rattle.std.proofs.Common.{arith, sym, ap, ◌∙◌}
 use Rattle.std.proofs.lemmas.Bool.{false≢true}
 use Rattle.laws.specs.Pick.{pick}
-use Rattle.log.specs.Frames.{records_of}
+use Rattle.framing.specs.Frames.{records_of}
 use Rattle.chip.specs.Address.{address_number}
 use Rattle.chip.specs.Sheet.{fresh_sheet}
 use Rattle.chip.specs.declared.sheet.Sheet.{Sheet}

@@ -1,6 +1,6 @@
 -- THE TABLE OF RUNS (document 01, "Counts"): a run's counts, its number of records, whether it was cut or refused, and the panel after it.
 use Rattle.std.specs.Prelude.{ℕ, refl, Bool, true, false, List, [], ◌∷◌, ◌++◌, replicate}
-use Rattle.log.specs.Frames.{records_of}
+use Rattle.framing.specs.Frames.{records_of}
 use Rattle.mirror.specs.Stream.{run_of}
 use Rattle.mirror.specs.declared.half.Half.TheVariants.{Empty}
 use Rattle.mirror.specs.declared.panel.Panel.{Panel}

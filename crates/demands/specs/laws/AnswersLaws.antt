@@ -1,7 +1,7 @@
 -- The answers of a log are those of a run over it.
 use Rattle.std.specs.Prelude.{ℕ, ◌≡◌, refl, true, List, [], ◌∷◌, replicate}
 use Rattle.std.proofs.Common.{sym, ap, ◌∙◌}
-use Rattle.log.specs.Frames.{frames}
+use Rattle.framing.specs.Frames.{frames}
 use Rattle.mirror.specs.Answer.{count_places}
 use Rattle.mirror.specs.Panel.{sound_panel}
 use Rattle.mirror.specs.Answers.{Proper}

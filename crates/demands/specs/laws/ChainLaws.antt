@@ -6,13 +6,13 @@ use Rattle.std.proofs.Math.Bool.{true}
 use mathlib.Core.List.{List, [], ◌∷◌, ◌++◌, append-nil, append_assoc}
 use Rattle.std.proofs.lemmas.Bool.{eqb-false}
 use Rattle.laws.specs.Pick.{pick}
-use Rattle.log.specs.Frame.{frame_of, record_size, cut_at, whole_size, wants_more}
-use Rattle.log.specs.Frames.{frames, tail, joined}
-use Rattle.log.specs.laws.CutLaws.{none_want, wants_cut}
-use Rattle.log.specs.laws.FrontLaws.{uncut_front}
-use Rattle.log.specs.laws.FrameLaws.{frame_take, size_whole}
-use Rattle.log.specs.laws.FramesLaws.{frames_cut, tail_cut, frames_next}
-use Rattle.log.specs.Carry.{more, filled}
+use Rattle.framing.specs.Frame.{frame_of, record_size, cut_at, whole_size, wants_more}
+use Rattle.framing.specs.Frames.{frames, tail, joined}
+use Rattle.framing.specs.laws.CutLaws.{none_want, wants_cut}
+use Rattle.framing.specs.laws.FrontLaws.{uncut_front}
+use Rattle.framing.specs.laws.FrameLaws.{frame_take, size_whole}
+use Rattle.framing.specs.laws.FramesLaws.{frames_cut, tail_cut, frames_next}
+use Rattle.framing.specs.Carry.{more, filled}
 use Rattle.mirror.specs.Panel.{sound_panel, fresh_panel}
 use Rattle.mirror.specs.engine.Record.{answered}
 use Rattle.mirror.specs.Table.{record_of}

@@ -4,13 +4,13 @@ use Rattle.std.proofs.Common.{arith, zero-add, sym, ap, ◌∙◌, length-set, l
 use Rattle.std.proofs.lemmas.Bool.{false≢true, eqb-false}
 use Rattle.std.proofs.lemmas.List.{get_or-replicate}
 use Rattle.laws.specs.Pick.{pick}
-use Rattle.log.specs.Frame.{record_size, time_of, rs_of, rw_of, data_of, is_reset, cut_at, bad_at, frame_of}
-use Rattle.log.specs.Frames.{frames, records_of}
-use Rattle.log.specs.laws.FrameLaws.{IsRecord}
-use Rattle.log.specs.laws.FramesLaws.{AllRecords, frames_cut, frames_next, frames-induction, frames_are_records}
-use Rattle.log.specs.laws.FrontLaws.{uncut_front}
-use Rattle.log.specs.declared.frame.Frame.{Frame}
-use Rattle.log.specs.declared.frame.Frame.TheVariants as frame
+use Rattle.framing.specs.Frame.{record_size, time_of, rs_of, rw_of, data_of, is_reset, cut_at, bad_at, frame_of}
+use Rattle.framing.specs.Frames.{frames, records_of}
+use Rattle.framing.specs.laws.FrameLaws.{IsRecord}
+use Rattle.framing.specs.laws.FramesLaws.{AllRecords, frames_cut, frames_next, frames-induction, frames_are_records}
+use Rattle.framing.specs.laws.FrontLaws.{uncut_front}
+use Rattle.framing.specs.declared.frame.Frame.{Frame}
+use Rattle.framing.specs.declared.frame.Frame.TheVariants as frame
 use Rattle.mirror.specs.Answer.{number_of, count_places, place_of}
 use Rattle.mirror.specs.engine.Way.{way_of}
 use Rattle.mirror.specs.Words.{joined_of, free}

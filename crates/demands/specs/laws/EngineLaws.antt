@@ -1,8 +1,8 @@
 -- What the engine makes of a record is what the table says, record after record: so what is proved of the one holds of the other.
 use Rattle.std.specs.Prelude.{ℕ, ◌≡◌, refl, true, List, [], ◌∷◌}
 use Rattle.std.proofs.Common.{ap, ◌∙◌}
-use Rattle.log.specs.Frame.{frame_of}
-use Rattle.log.specs.Frames.{frames}
+use Rattle.framing.specs.Frame.{frame_of}
+use Rattle.framing.specs.Frames.{frames}
 use Rattle.mirror.specs.Panel.{sound_panel}
 use Rattle.mirror.specs.engine.Record.{answered}
 use Rattle.mirror.specs.laws.TableLaws.{answered_sound}

@@ -4,8 +4,8 @@ use Rattle.std.proofs.Common.{sym, ap, ◌∙◌, subst, le-ltb, eqb-true}
 use Rattle.std.specs.Bool.{beq}
 use Rattle.std.proofs.lemmas.Bool.{false≢true}
 use Rattle.laws.specs.Pick.{pick}
-use Rattle.log.specs.Frame.{frame_of}
-use Rattle.log.specs.declared.frame.Frame.TheVariants.{Transfer}
+use Rattle.framing.specs.Frame.{frame_of}
+use Rattle.framing.specs.declared.frame.Frame.TheVariants.{Transfer}
 use Rattle.chip.specs.Sound.{sound_sheet}
 use Rattle.chip.specs.Step.{obeyed}
 use Rattle.chip.specs.declared.sheet.Sheet.{Sheet}

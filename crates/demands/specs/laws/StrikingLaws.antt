@@ -3,10 +3,10 @@ use Rattle.std.specs.Prelude.{ℕ, ◌<◌, ◌≡◌, refl, Bool, true, false, 
 use Rattle.std.proofs.Common.{sym, ap, ◌∙◌, subst}
 use mathlib.Core.List.{List, [], ◌∷◌, append-nil, Sublistᴰ}
 use Rattle.laws.specs.Pick.{pick}
-use Rattle.log.specs.Frame.{data_of}
-use Rattle.log.specs.laws.FrontLaws.{Front}
-use Rattle.log.specs.Frames.{Pieces, pieces_from, pieces, frames, tail, joined}
-use Rattle.log.specs.laws.FramesLaws.{AllRecords, frames_are_records, joined_pieces}
+use Rattle.framing.specs.Frame.{data_of}
+use Rattle.framing.specs.laws.FrontLaws.{Front}
+use Rattle.framing.specs.Frames.{Pieces, pieces_from, pieces, frames, tail, joined}
+use Rattle.framing.specs.laws.FramesLaws.{AllRecords, frames_are_records, joined_pieces}
 use Rattle.mirror.specs.Panel.{fresh_panel}
 use Rattle.mirror.specs.Answers.{Typed, Proper}
 use Rattle.mirror.specs.laws.TypedLaws.{AllData, frames_data, proper_lasts, typed_proper, typed_lasts}

@@ -10,7 +10,7 @@ use Rattle.account.specs.contracts.account.Account.start as account·start
 use Rattle.account.specs.contracts.account.Account.next as account·next
 use Rattle.account.specs.contracts.account.Account.unfinished as account·unfinished
 use Rattle.account.specs.contracts.again.Again.after as again·after
-use Rattle.account.specs.contracts.again.Stage.is_quiet as stage·quiet
+use Rattle.account.specs.contracts.again.Again.is_quiet as again·quiet
 use Rattle.account.specs.contracts.placed.Placed.read as placed·read
 use Rattle.account.specs.contracts.placed.Placed.line as placed·line
 use Rattle.account.specs.contracts.placed.Placed.kept as placed·kept
@@ -33,9 +33,9 @@ module _ {M : Type 1} {𝓤 : Ura M} (𝓛 : Logic 𝓤) (mem : Memory → SProp
   pub again-after : DeterminesAnswer 𝓤 again·after.ended (again·after.clauses 𝓛 mem run)
   again-after = equation 𝓤 _ _ _ (λ κs a g r e. refl)
 
-  -- account::again::Stage::is_quiet: r ≡ quietAt self (numberOf answer) used
-  pub stage-quiet : DeterminesAnswer 𝓤 stage·quiet.ended (stage·quiet.clauses 𝓛 mem run)
-  stage-quiet = equation 𝓤 _ _ _ (λ κs a g r e. refl)
+  -- account::again::Again::is_quiet: r ≡ quietAt self.stage (numberOf answer) used
+  pub again-quiet : DeterminesAnswer 𝓤 again·quiet.ended (again·quiet.clauses 𝓛 mem run)
+  again-quiet = equation 𝓤 _ _ _ (λ κs a g r e. refl)
 
   -- account::placed::Placed::read: r ≡ placedRead before answer first (now bytes.entry)
   pub placed-read : DeterminesAnswer 𝓤 placed·read.ended (placed·read.clauses 𝓛 mem run)

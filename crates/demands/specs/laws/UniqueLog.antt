@@ -7,21 +7,21 @@ use prog.Memory.{Memory}
 use prog.Routine.{Routine}
 use types.Logic.{Logic}
 use contract.Monad.{Fun}
-use Rattle.log.specs.contracts.carry.carried as carry·carried
-use Rattle.log.specs.contracts.carry.Carry.empty as carry·empty
-use Rattle.log.specs.contracts.carry.Carry.keep as carry·keep
-use Rattle.log.specs.contracts.carry.Carry.frame as carry·frame
-use Rattle.log.specs.contracts.carry.Carry.flaw as carry·flaw
-use Rattle.log.specs.contracts.carry.Carry.wants_more as carry·wants-more
-use Rattle.log.specs.contracts.carry.Carry.wanting as carry·wanting
-use Rattle.log.specs.contracts.carry.Carry.fill as carry·fill
-use Rattle.log.specs.contracts.frame.Frame.size as frame·size
-use Rattle.log.specs.contracts.front.told as front·told
-use Rattle.log.specs.contracts.front.whole as front·whole
-use Rattle.log.specs.contracts.front.wants_more as front·wants-more
-use Rattle.log.specs.contracts.front.frame as front·frame
-use Rattle.log.specs.contracts.front.flaw as front·flaw
-use Rattle.log.specs.contracts.records.records as records·records
+use Rattle.framing.specs.contracts.carry.carried as carry·carried
+use Rattle.framing.specs.contracts.carry.Carry.empty as carry·empty
+use Rattle.framing.specs.contracts.carry.Carry.keep as carry·keep
+use Rattle.framing.specs.contracts.carry.Carry.frame as carry·frame
+use Rattle.framing.specs.contracts.carry.Carry.flaw as carry·flaw
+use Rattle.framing.specs.contracts.carry.Carry.wants_more as carry·wants-more
+use Rattle.framing.specs.contracts.carry.Carry.wanting as carry·wanting
+use Rattle.framing.specs.contracts.carry.Carry.fill as carry·fill
+use Rattle.framing.specs.contracts.frame.Frame.size as frame·size
+use Rattle.framing.specs.contracts.front.told as front·told
+use Rattle.framing.specs.contracts.front.whole as front·whole
+use Rattle.framing.specs.contracts.front.wants_more as front·wants-more
+use Rattle.framing.specs.contracts.front.frame as front·frame
+use Rattle.framing.specs.contracts.front.flaw as front·flaw
+use Rattle.framing.specs.contracts.records.records as records·records
 use Rattle.demands.specs.Unique.{DeterminesAnswer, answer, equation}
 
 module _ {M : Type 1} {𝓤 : Ura M} (𝓛 : Logic 𝓤) (mem : Memory → SProp 𝓤) (run : Routine → Fun 𝓤) where

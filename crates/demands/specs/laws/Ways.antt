@@ -4,8 +4,8 @@ use Rattle.std.proofs.Common.{sym, true≢false, ltb-false}
 use Rattle.std.specs.Bool.{beq}
 use Rattle.std.proofs.lemmas.Bool.{eqb-false}
 use Rattle.laws.specs.Pick.{pick}
-use Rattle.log.specs.declared.frame.Frame.{Frame}
-use Rattle.log.specs.declared.frame.Frame.TheVariants as frame
+use Rattle.framing.specs.declared.frame.Frame.{Frame}
+use Rattle.framing.specs.declared.frame.Frame.TheVariants as frame
 use Rattle.chip.specs.Sheet.{fresh_sheet}
 use Rattle.mirror.specs.engine.Way.{Way, finish_of, whole_of, first_of, second_of, unless_torn, way_of}
 use Rattle.mirror.specs.Words.{nibble_of, joined_of, free, status_of, is_good, read_byte, holding, done, high}

@@ -1,7 +1,7 @@
 -- The busy rule at work, computed: which transfer each entry began with, and how it is answered.
 use Rattle.std.specs.Prelude.{ℕ, ◌≡◌, refl, Bool, true, List, [], ◌∷◌}
 use Rattle.laws.specs.Bit.{pack}
-use Rattle.log.specs.Frame.{num16, num64, cut_at, bad_at, frame_of, time_of}
+use Rattle.framing.specs.Frame.{num16, num64, cut_at, bad_at, frame_of, time_of}
 use Rattle.chip.specs.Sizes.{one_line}
 use Rattle.chip.specs.Sound.{faultless}
 use Rattle.mirror.specs.Panel.{fresh_panel}

@@ -1,7 +1,7 @@
 -- A stream that is being read, record by record: what it stands for, with the memories and the counts that are lent beside it.
 use Rattle.std.specs.Prelude.{ℕ, ◌≡◌, Bool, List, eqb}
 use Rattle.laws.specs.Pick.{pick}
-use Rattle.log.specs.Frame.{frame_of}
+use Rattle.framing.specs.Frame.{frame_of}
 use Rattle.mirror.specs.Run.{counted}
 use Rattle.mirror.specs.Panel.{sound_panel}
 use Rattle.mirror.specs.Stream.{start_of, rested_of}

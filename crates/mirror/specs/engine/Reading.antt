@@ -1,7 +1,7 @@
 -- What the crate's own functions answer while a log is read.
 use Rattle.std.specs.Prelude.{ℕ, ◌-◌, List, length}
 use Rattle.laws.specs.Pick.{pick}
-use Rattle.log.specs.Frames.{frames, tail}
+use Rattle.framing.specs.Frames.{frames, tail}
 use Rattle.mirror.specs.Run.{onward}
 use Rattle.mirror.specs.declared.totals.Totals.{Totals}
 use Rattle.mirror.specs.declared.totals.Consumed.{Consumed}

@@ -1,8 +1,8 @@
 -- What the engine makes of one record, way by way. That it is the table's row is the law `answered-sound` (TableLaws.antt).
 use Rattle.std.specs.Prelude.{ℕ, ◌*◌, ◌%◌, ◌/◌, Bool, ltb}
 use Rattle.laws.specs.Pick.{pick}
-use Rattle.log.specs.declared.frame.Frame.{Frame}
-use Rattle.log.specs.declared.frame.Frame.TheVariants as frame
+use Rattle.framing.specs.declared.frame.Frame.{Frame}
+use Rattle.framing.specs.declared.frame.Frame.TheVariants as frame
 use Rattle.chip.specs.Sheet.{fresh_sheet}
 use Rattle.chip.specs.Step.{obeyed, written, passed}
 use Rattle.mirror.specs.engine.Way.{Way, way_of}

@@ -4,9 +4,9 @@ use Rattle.std.proofs.Common.{sym, ap, subst, ◌∙◌, mod-eq_of_lt, ltb-true,
 use Rattle.std.specs.Bool.{beq}
 use Rattle.std.proofs.lemmas.Bool.{false≢true, not-true}
 use Rattle.laws.specs.Pick.{pick}
-use Rattle.log.specs.Frame.{time_of, data_of, rs_of, rw_of, is_transfer, cut_at, bad_at}
-use Rattle.log.specs.laws.FrontLaws.{or_left, or_right}
-use Rattle.log.specs.Frames.{frames}
+use Rattle.framing.specs.Frame.{time_of, data_of, rs_of, rw_of, is_transfer, cut_at, bad_at}
+use Rattle.framing.specs.laws.FrontLaws.{or_left, or_right}
+use Rattle.framing.specs.Frames.{frames}
 use Rattle.chip.specs.Step.{obeyed, written, passed}
 use Rattle.chip.specs.laws.WidthLaws.{obeyed_width, written_width}
 use Rattle.mirror.specs.Panel.{fresh_panel, half_fits, sound_panel}

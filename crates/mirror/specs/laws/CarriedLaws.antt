@@ -2,7 +2,7 @@
 use Rattle.std.specs.Prelude.{ℕ, ◌≡◌, Bool, true, List}
 use Rattle.std.proofs.Common.{ap, ◌∙◌}
 use Rattle.laws.specs.Pick.{pick}
-use Rattle.log.specs.Frame.{is_reset}
+use Rattle.framing.specs.Frame.{is_reset}
 use Rattle.chip.specs.Sheet.{fresh_sheet}
 use Rattle.chip.specs.Step.{obeyed, written, passed}
 use Rattle.mirror.specs.Answer.{carried_out}

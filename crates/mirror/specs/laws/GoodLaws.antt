@@ -3,7 +3,7 @@ use Rattle.std.specs.Prelude.{ℕ, ◌*◌, ◌≤◌, ◌≡◌, refl, Bool, tr
 use Rattle.std.proofs.Common.{sym, ap, ◌∙◌, arith}
 use Rattle.std.proofs.lemmas.Bool.{false≢true, eqb-false}
 use Rattle.laws.specs.Pick.{pick}
-use Rattle.log.specs.Frame.{time_of, rs_of, rw_of, is_transfer, is_reset, cut_at, bad_at}
+use Rattle.framing.specs.Frame.{time_of, rs_of, rw_of, is_transfer, is_reset, cut_at, bad_at}
 use Rattle.chip.specs.Step.{obeyed, written, passed}
 use Rattle.chip.specs.laws.GoodLaws.{low_doubtful, move_good, shift_leaves, function_doubtful, set_good, write_doubtful, read_good}
 use Rattle.chip.specs.declared.sheet.Sheet.{Sheet}

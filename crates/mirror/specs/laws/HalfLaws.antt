@@ -4,7 +4,7 @@ use Rattle.std.proofs.Common.{sym, ap, subst, ◌∙◌}
 use Rattle.std.specs.Bool.{beq}
 use Rattle.std.proofs.lemmas.Bool.{false≢true}
 use Rattle.laws.specs.Pick.{pick}
-use Rattle.log.specs.Frame.{time_of, rs_of, rw_of, is_transfer}
+use Rattle.framing.specs.Frame.{time_of, rs_of, rw_of, is_transfer}
 use Rattle.mirror.specs.Panel.{half_fits}
 use Rattle.mirror.specs.Words.{free}
 use Rattle.mirror.specs.laws.SoundParts.{parts}

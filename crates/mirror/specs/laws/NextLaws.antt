@@ -4,12 +4,12 @@ use Rattle.std.proofs.Common.{arith, sym, ap, subst, ◌∙◌, append-nil, leng
 use Rattle.std.proofs.lemmas.Bool.{false≢true}
 use Rattle.std.proofs.Math.Option.{none, some}
 use Rattle.laws.specs.Pick.{pick}
-use Rattle.log.specs.Frame.{frame_of, is_reset, cut_at, bad_at, wants_more}
-use Rattle.log.specs.Frames.{Pieces, frames, tail}
-use Rattle.log.specs.laws.CutLaws.{none_want, wants_cut}
-use Rattle.log.specs.laws.FramesLaws.{frames_cut, tail_cut, record-first}
-use Rattle.log.specs.Carry.{carried_of, reach, more, filled}
-use Rattle.log.specs.laws.CarryLaws.{left, wanting_wants, fill-front, more_left}
+use Rattle.framing.specs.Frame.{frame_of, is_reset, cut_at, bad_at, wants_more}
+use Rattle.framing.specs.Frames.{Pieces, frames, tail}
+use Rattle.framing.specs.laws.CutLaws.{none_want, wants_cut}
+use Rattle.framing.specs.laws.FramesLaws.{frames_cut, tail_cut, record-first}
+use Rattle.framing.specs.Carry.{carried_of, reach, more, filled}
+use Rattle.framing.specs.laws.CarryLaws.{left, wanting_wants, fill-front, more_left}
 use Rattle.mirror.specs.Answer.{count_places, Paper}
 use Rattle.mirror.specs.Panel.{sound_panel}
 use Rattle.mirror.specs.Table.{is_back, transfer_for, number_for, byte_for, Tabled, row_for}

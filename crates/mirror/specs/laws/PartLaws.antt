@@ -13,7 +13,7 @@ use Rattle.mirror.specs.Answer.{number_of, count_places, place_of}
 use Rattle.mirror.specs.Run.{most_count, raised, tallied}
 use Rattle.mirror.specs.engine.Reading.{consumed_of}
 use Rattle.mirror.specs.engine.Part.{raised_by, added_to, up_to, bumped, Room}
-use Rattle.log.specs.Frame.{frame_of}
+use Rattle.framing.specs.Frame.{frame_of}
 use Rattle.mirror.specs.engine.Record.{answered}
 use Rattle.mirror.specs.laws.RunLaws.{Reading, reading_starts, reading_ends, reading_goes}
 use Rattle.mirror.specs.declared.answer.Answer.{Answer}

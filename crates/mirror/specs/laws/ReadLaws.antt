@@ -3,14 +3,14 @@ use Rattle.std.specs.Prelude.{ℕ, ◌+◌, ◌-◌, ◌≤◌, ◌≡◌, Bool,
 use Rattle.std.proofs.Common.{arith, sym, ap, ◌∙◌, append-nil, ne_eqb, length-take}
 use Rattle.std.proofs.lemmas.Bool.{false≢true}
 use Rattle.laws.specs.Pick.{pick}
-use Rattle.log.specs.Frame.{frame_of, size_of, cut_at}
-use Rattle.log.specs.Carry.{reach, topped_of, more, filled, filled_of}
-use Rattle.log.specs.laws.FrontLaws.{Front}
-use Rattle.log.specs.laws.FrameLaws.{Seen, seen, size_within, frame_take}
-use Rattle.log.specs.laws.FrameLaws.Seen.{cut, bad, transfer, reset}
-use Rattle.log.specs.laws.CarryLaws.{front_reach}
-use Rattle.log.specs.declared.carry.Filled.{Filled}
-use Rattle.log.specs.declared.frame.Frame.{Frame}
+use Rattle.framing.specs.Frame.{frame_of, size_of, cut_at}
+use Rattle.framing.specs.Carry.{reach, topped_of, more, filled, filled_of}
+use Rattle.framing.specs.laws.FrontLaws.{Front}
+use Rattle.framing.specs.laws.FrameLaws.{Seen, seen, size_within, frame_take}
+use Rattle.framing.specs.laws.FrameLaws.Seen.{cut, bad, transfer, reset}
+use Rattle.framing.specs.laws.CarryLaws.{front_reach}
+use Rattle.framing.specs.declared.carry.Filled.{Filled}
+use Rattle.framing.specs.declared.frame.Frame.{Frame}
 use Rattle.mirror.specs.Panel.{sound_panel}
 use Rattle.mirror.specs.Run.{counted, tallied, raised}
 use Rattle.mirror.specs.Stream.{start_of, waiting_bytes, rested_of, next_of}

@@ -4,7 +4,7 @@ use Rattle.std.proofs.Common.{sym, ap, subst, ◌∙◌, arith, eqb-true}
 use Rattle.std.proofs.lemmas.Bool.{false≢true}
 use Rattle.std.proofs.Math.Bool.{and-false}
 use Rattle.laws.specs.Pick.{pick}
-use Rattle.log.specs.Frame.{kind_of, time_of, rs_of, rw_of, is_transfer, is_reset}
+use Rattle.framing.specs.Frame.{kind_of, time_of, rs_of, rw_of, is_transfer, is_reset}
 use Rattle.chip.specs.Sheet.{fresh_sheet}
 use Rattle.chip.specs.Step.{obeyed, written, passed}
 use Rattle.chip.specs.laws.ChipLaws.{obeyed_chip, written_chip, passed_chip}

@@ -2,13 +2,13 @@
 use Rattle.std.specs.Prelude.{ℕ, ◌+◌, ◌-◌, ◌≤◌, ◌≡◌, refl, Bool, true, false, List, length, take, drop, ltb}
 use Rattle.std.proofs.Common.{sym, ap, ◌∙◌, arith, length-drop, drop-drop}
 use Rattle.laws.specs.Pick.{pick}
-use Rattle.log.specs.Frame.{cut_at, frame_of, size_of}
-use Rattle.log.specs.Frames.{Pieces, frames, tail}
-use Rattle.log.specs.laws.FrontLaws.{front}
-use Rattle.log.specs.laws.FrameLaws.{size_whole, size_cut, frame_cut, cut_frame, frame_take}
-use Rattle.log.specs.laws.FramesLaws.{frames_cut, tail_cut, front_next}
-use Rattle.log.specs.declared.frame.Frame.{Frame}
-use Rattle.log.specs.declared.frame.Frame.TheVariants as frame
+use Rattle.framing.specs.Frame.{cut_at, frame_of, size_of}
+use Rattle.framing.specs.Frames.{Pieces, frames, tail}
+use Rattle.framing.specs.laws.FrontLaws.{front}
+use Rattle.framing.specs.laws.FrameLaws.{size_whole, size_cut, frame_cut, cut_frame, frame_take}
+use Rattle.framing.specs.laws.FramesLaws.{frames_cut, tail_cut, front_next}
+use Rattle.framing.specs.declared.frame.Frame.{Frame}
+use Rattle.framing.specs.declared.frame.Frame.TheVariants as frame
 use Rattle.chip.specs.Sheet.{fresh_sheet}
 use Rattle.mirror.specs.Answer.{number_of, count_places, place_of}
 use Rattle.mirror.specs.engine.Way.{Way, way_of}

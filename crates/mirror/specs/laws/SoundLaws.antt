@@ -3,8 +3,8 @@ use Rattle.std.specs.Prelude.{ℕ, ◌%◌, ◌/◌, ◌<◌, ◌≤◌, ◌≡�
 use Rattle.std.proofs.Common.{sym, ◌∙◌, arith, mod-lt, leb-true, leb-false, lt-ltb}
 use Rattle.std.proofs.lemmas.Bool.{false≢true}
 use Rattle.laws.specs.Pick.{pick}
-use Rattle.log.specs.Frame.{time_of, data_of, rs_of, rw_of, is_reset, late_time, bad_at}
-use Rattle.log.specs.laws.FrameLaws.{time_bad}
+use Rattle.framing.specs.Frame.{time_of, data_of, rs_of, rw_of, is_reset, late_time, bad_at}
+use Rattle.framing.specs.laws.FrameLaws.{time_bad}
 use Rattle.chip.specs.Sheet.{fresh_sheet}
 use Rattle.chip.specs.Step.{obeyed, written, passed}
 use Rattle.chip.specs.Sizes.{is_known}

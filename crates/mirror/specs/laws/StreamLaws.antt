@@ -6,20 +6,20 @@ use Rattle.std.proofs.Math.Bool.{true, false}
 use mathlib.Core.List.{List, [], ◌∷◌, ◌++◌, append_assoc, append-nil}
 use Rattle.std.proofs.Math.Seq.{drop-append_seam}
 use Rattle.laws.specs.Pick.{pick}
-use Rattle.log.specs.Frame.{frame_of, cut_at, wants_more, record_size}
-use Rattle.log.specs.laws.CutLaws.{broken, cut_either, cut_one, none_want, broken_append, wants_cut}
-use Rattle.log.specs.Frames.{Pieces, frames, tail, joined}
-use Rattle.log.specs.laws.FrontLaws.{uncut_front}
-use Rattle.log.specs.laws.FrameLaws.{cut_frame, frame_cut}
-use Rattle.log.specs.laws.FramesLaws.{frames_cut, tail_cut, tail_next, joined_frames, tail_is_cut, pieces_append, pieces_broken, record-first}
-use Rattle.log.specs.Carry.{carried_of, carry_of, wanting_of, reach, topped_of, more, filled, filled_of, room}
-use Rattle.log.specs.laws.CarryLaws.{left, carried, fill_carried, wanting_wants, fill-wants, fill-broken, fill_frame, fill-front, fill-whole}
+use Rattle.framing.specs.Frame.{frame_of, cut_at, wants_more, record_size}
+use Rattle.framing.specs.laws.CutLaws.{broken, cut_either, cut_one, none_want, broken_append, wants_cut}
+use Rattle.framing.specs.Frames.{Pieces, frames, tail, joined}
+use Rattle.framing.specs.laws.FrontLaws.{uncut_front}
+use Rattle.framing.specs.laws.FrameLaws.{cut_frame, frame_cut}
+use Rattle.framing.specs.laws.FramesLaws.{frames_cut, tail_cut, tail_next, joined_frames, tail_is_cut, pieces_append, pieces_broken, record-first}
+use Rattle.framing.specs.Carry.{carried_of, carry_of, wanting_of, reach, topped_of, more, filled, filled_of, room}
+use Rattle.framing.specs.laws.CarryLaws.{left, carried, fill_carried, wanting_wants, fill-wants, fill-broken, fill_frame, fill-front, fill-whole}
 use Rattle.laws.specs.Held.{Held}
-use Rattle.log.specs.Flaw.{flaw_of}
-use Rattle.log.specs.declared.flaw.Flaw.{Flaw}
-use Rattle.log.specs.declared.frame.Frame.{Frame}
-use Rattle.log.specs.declared.carry.Carry.{Carry}
-use Rattle.log.specs.declared.carry.Filled.{Filled}
+use Rattle.framing.specs.Flaw.{flaw_of}
+use Rattle.framing.specs.declared.flaw.Flaw.{Flaw}
+use Rattle.framing.specs.declared.frame.Frame.{Frame}
+use Rattle.framing.specs.declared.carry.Carry.{Carry}
+use Rattle.framing.specs.declared.carry.Filled.{Filled}
 use Rattle.mirror.specs.Answer.{count_places}
 use Rattle.mirror.specs.Panel.{sound_panel}
 use Rattle.mirror.specs.Run.{most_count, capped, raised, started, advanced, onward}

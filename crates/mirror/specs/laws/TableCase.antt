@@ -2,7 +2,7 @@
 use Rattle.std.specs.Prelude.{ℕ, ◌≡◌, refl, Bool, true, false, not, List}
 use Rattle.std.proofs.Common.{sym, ap, subst, ◌∙◌}
 use Rattle.laws.specs.Pick.{pick}
-use Rattle.log.specs.Frame.{is_reset, cut_at, bad_at}
+use Rattle.framing.specs.Frame.{is_reset, cut_at, bad_at}
 use Rattle.mirror.specs.Panel.{sound_panel}
 use Rattle.mirror.specs.Answers.{answer_to, panel_after}
 use Rattle.mirror.specs.Table.{is_back, tears, ignores, is_none, is_first, is_status, is_doubtful, transfer_for, number_for, panel_for}

@@ -5,10 +5,10 @@ use Rattle.std.proofs.Common.{sym, ap, ◌∙◌}
 use Rattle.std.specs.Bool.{beq}
 use Rattle.std.proofs.lemmas.Bool.{false≢true}
 use Rattle.laws.specs.Pick.{pick}
-use Rattle.log.specs.Frame.{kind_of, time_of, data_of, rs_of, rw_of, is_reset, record_size, cut_at, bad_at, frame_of}
-use Rattle.log.specs.laws.FrameLaws.{Seen, seen}
-use Rattle.log.specs.laws.FrameLaws.Seen.{cut, bad, transfer, reset}
-use Rattle.log.specs.declared.frame.Frame.{Frame}
+use Rattle.framing.specs.Frame.{kind_of, time_of, data_of, rs_of, rw_of, is_reset, record_size, cut_at, bad_at, frame_of}
+use Rattle.framing.specs.laws.FrameLaws.{Seen, seen}
+use Rattle.framing.specs.laws.FrameLaws.Seen.{cut, bad, transfer, reset}
+use Rattle.framing.specs.declared.frame.Frame.{Frame}
 use Rattle.chip.specs.Sheet.{fresh_sheet, on_registers, with_function, with_good}
 use Rattle.mirror.specs.Panel.{half_fits, sound_panel}
 use Rattle.mirror.specs.engine.Way.{Way, whole_of, first_of, second_of, way_of}

@@ -1,9 +1,9 @@
 -- What the types hold lasts: the records of a log made of bytes carry bytes, and from a fresh panel of such times the panel stays sound.
 use Rattle.std.specs.Prelude.{ℕ, zero, suc, ◌+◌, ◌<◌, List, [], ◌∷◌, get_or, take}
 use Rattle.std.proofs.Common.{arith, get_or-drop}
-use Rattle.log.specs.Frame.{data_of, record_size}
-use Rattle.log.specs.Frames.{frames}
-use Rattle.log.specs.laws.FramesLaws.{frames_cut, frames_next, frames-induction}
+use Rattle.framing.specs.Frame.{data_of, record_size}
+use Rattle.framing.specs.Frames.{frames}
+use Rattle.framing.specs.laws.FramesLaws.{frames_cut, frames_next, frames-induction}
 use Rattle.mirror.specs.Panel.{fresh_panel}
 use Rattle.mirror.specs.Answers.{ByteLog, Typed, Proper}
 use Rattle.mirror.specs.laws.SoundParts.{parts}

@@ -3,8 +3,8 @@ use Rattle.std.specs.Prelude.{◌≡◌, ℕ, ◌+◌, ◌-◌, ◌<◌, ◌≤�
 use Rattle.std.proofs.Common.{sym, ap, ◌∙◌, not-suc-le-zero, arith, length-take, length-drop, length-set, get_or-take, get_or-drop, get_or-set_same, get_or-set_other, ext_get_or}
 use Rattle.std.proofs.Math.Decide.{ℕ_discrete}
 use Rattle.laws.specs.Pick.{pick}
-use Rattle.log.specs.Frame.{cut_at, bad_at, is_reset, record_size}
-use Rattle.log.specs.laws.FrontLaws.{uncut_front}
+use Rattle.framing.specs.Frame.{cut_at, bad_at, is_reset, record_size}
+use Rattle.framing.specs.laws.FrontLaws.{uncut_front}
 use Rattle.mirror.specs.Panel.{sound_panel}
 use Rattle.mirror.specs.Table.{is_back, transfer_for, used_for}
 use Rattle.mirror.specs.Promise.{Records}

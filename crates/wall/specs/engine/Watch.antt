@@ -1,7 +1,7 @@
 -- A record that ends the watch, told by its own time before it is answered. That it is the one is the law `later-told` (FollowLaws.antt).
 use Rattle.std.specs.Prelude.{ℕ, Bool, false, ◌&&◌, leb, ltb}
-use Rattle.log.specs.declared.frame.Frame.{Frame}
-use Rattle.log.specs.declared.frame.Frame.TheVariants as frame
+use Rattle.framing.specs.declared.frame.Frame.{Frame}
+use Rattle.framing.specs.declared.frame.Frame.TheVariants as frame
 
 -- a time that is neither back nor too early to end it
 abbrev pub later_by : ℕ → ℕ → Frame → Bool

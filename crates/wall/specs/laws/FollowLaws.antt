@@ -3,9 +3,9 @@ use Rattle.std.specs.Prelude.{ℕ, ◌≡◌, refl, Bool, true, false, not, ◌&
 use Rattle.std.proofs.Common.{sym, ap, ◌∙◌, le-leb, ltb-true, ltb-false}
 use Rattle.std.proofs.lemmas.Bool.{lt-leb}
 use Rattle.laws.specs.Pick.{pick}
-use Rattle.log.specs.Frame.{frame_of}
-use Rattle.log.specs.declared.frame.Frame.{Frame}
-use Rattle.log.specs.declared.frame.Frame.TheVariants as frame
+use Rattle.framing.specs.Frame.{frame_of}
+use Rattle.framing.specs.declared.frame.Frame.{Frame}
+use Rattle.framing.specs.declared.frame.Frame.TheVariants as frame
 use Rattle.chip.specs.Sheet.{fresh_sheet}
 use Rattle.mirror.specs.Answer.{number_of}
 use Rattle.mirror.specs.Answers.{clocked}

@@ -1,5 +1,5 @@
 use Rattle.std.proofs.Common.{arith, rules}
-use Rattle.log.specs.Frame.{num16}
+use Rattle.framing.specs.Frame.{num16}
 use Rattle.trace.proofs.panel_file.num16.Statement.{statement}
 use Rattle.trace.proofs.panel_file.num16.Tie as tie
 

@@ -1,5 +1,5 @@
 use Rattle.std.proofs.Common.{arith, rules}
-use Rattle.log.specs.Frame.{num64}
+use Rattle.framing.specs.Frame.{num64}
 use Rattle.trace.proofs.panel_file.num64.Statement.{statement}
 use Rattle.trace.proofs.panel_file.num64.Tie as tie
 

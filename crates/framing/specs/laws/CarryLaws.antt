@@ -1,0 +1,228 @@
+-- Laws of the carried bytes: that filling a carry and reading it is reading on.
+use Rattle.std.specs.Prelude.{ℕ, zero, suc, ◌+◌, ◌-◌, ◌<◌, ◌≤◌, min, ◌≡◌, refl, Bool, true, false, ◌||◌, List, [], ◌∷◌, ◌++◌, length, take, drop, replicate, leb, eqb}
+use Rattle.std.proofs.Common.{arith, zero-add, sym, ap, ◌∙◌, append_assoc, length-append, length-take, take_all, leb-true, leb-false, le-ltb, ne_eqb}
+use Rattle.std.proofs.Math.Nat.{zero-sub, sub-zero, suc-sub-suc}
+use Rattle.std.proofs.Math.Seq.{take-append_seam, drop-append-add, paste}
+use Rattle.laws.specs.Pick.{pick}
+use Rattle.framing.specs.declared.carry.Carry.{Carry}
+use Rattle.framing.specs.Frame.{length_of, record_size, no_length, outside_length, cut_at, wants_more, frame_of, told_size}
+use Rattle.framing.specs.laws.CutLaws.{broken, none_want, wants_few, Wants, length_first, then_body, wants, inside, broken_append, cut_either, broken_cut}
+use Rattle.framing.specs.Frames.{then, pieces}
+use Rattle.framing.specs.Carry.{room, carried_of, carry_of, wanting_of, reach, up_to, topped_of, more, filled, filled_of}
+use Rattle.framing.specs.engine.Reading.{Reach}
+use Rattle.framing.specs.laws.FrontLaws.{Front, uncut_front, length_same}
+use Rattle.framing.specs.laws.FrameLaws.{frame_append, cut_frame}
+use Rattle.framing.specs.laws.FramesLaws.{record-first}
+
+-- what is left of a part where its bytes made the carried record whole
+abbrev pub left : List ℕ → List ℕ → List ℕ
+left carried part = drop (length (more carried part)) part
+
+-- a carry holds what it was made of
+pub carried : (s : List ℕ) → carried_of (carry_of s) ≡ s
+unfolding carry_of
+carried s = take-append_seam s (replicate (room - length s) 0)
+
+-- what wants more is carried whole
+pub keep_wants : (s : List ℕ) → wants_more s ≡ true → carried_of (carry_of (take room s)) ≡ s
+keep_wants s w = carried (take room s) ∙ take_all room s (omega (arith, wants_few s w))
+
+-- a carry whose bytes are pasted after what it holds
+take_least : (k : ℕ) (p : List ℕ) → take (min k (length p)) p ≡ take k p
+take_least k p = by (leb k (length p)) refl where
+  by : (b : Bool) → leb k (length p) ≡ b → take (min k (length p)) p ≡ take k p
+  by true e = let m : min k (length p) ≡ k = omega (arith, leb-true k (length p) e) in rw m
+  by false e =
+      let h = leb-false k (length p) e in
+      take_all (min k (length p)) p (omega arith) ∙ sym (take_all k p (omega arith))
+
+drop_replicate : (k n : ℕ) → drop k (replicate n 0) ≡ replicate {A = ℕ} (n - k) 0
+drop_replicate zero n = ap (λ (m : ℕ). replicate m 0) (sym (sub-zero n))
+drop_replicate (suc k) zero = ap (λ (m : ℕ). replicate m 0) (sym (zero-sub (suc k)))
+drop_replicate (suc k) (suc n) = drop_replicate k n ∙ ap (λ (m : ℕ). replicate m 0) (sym (suc-sub-suc n k))
+
+pub carry_paste : (s p : List ℕ) (k : ℕ) → record { bytes = paste (carry_of s).bytes (length s) p (min k (length p)); len = length s + min k (length p) } ≡ carry_of (s ++ take k p)
+unfolding carry_of
+carry_paste s p k =
+    let n = min k (length p) in
+    let l : length (s ++ take k p) ≡ length s + n = length-append s (take k p) ∙ ap (λ (m : ℕ). length s + m) (length-take k p) in
+    let m : room - length s - n ≡ room - (length s + n) = omega arith in
+    rw (l, take-append_seam s (replicate (room - length s) 0), drop-append-add s (replicate (room - length s) 0) n, drop_replicate n (room - length s), m, take_least k p)
+
+-- so a part is kept, and a carry topped up
+pub keep_carry : (p b : List ℕ) (n : ℕ) → n ≡ min room (length p) → b ≡ paste (replicate room 0) 0 p n → record { bytes = b; len = n } ≡ carry_of (take room p)
+unfolding carry_of
+keep_carry p b n e f =
+    ap (λ (l : List ℕ). record { bytes = l; len = n }) f
+    ∙ ap (λ (m : ℕ). record { bytes = paste (replicate room 0) 0 p m; len = m }) e
+    ∙ ap (λ (m : ℕ). record { bytes = paste (replicate room 0) 0 p (min room (length p)); len = m }) (sym (zero-add (min room (length p))))
+    ∙ carry_paste [] p room
+
+pub topped_carry : (s p b : List ℕ) (to h n : ℕ) → h ≡ length s → n ≡ min (to - h) (length p) → b ≡ paste (carry_of s).bytes h p n → record { carry = record { bytes = b; len = h + n }; taken = n } ≡ topped_of s to p
+unfolding topped_of
+topped_carry s p b to h n e f g =
+    rw (g, f, e)
+    (ap (λ (c : Carry). record { carry = c; taken = min (to - length s) (length p) }) (carry_paste s p (to - length s))
+    ∙ ap (λ (m : ℕ). record { carry = carry_of (s ++ up_to to s p); taken = m }) (sym (length-take (to - length s) p)))
+
+-- how far a record reaches, by the size that its length tells
+pub reach_told : (s : List ℕ) → reach s ≡ pick (eqb (told_size s) 0) 2 (told_size s)
+unfolding reach told_size
+reach_told s = by (no_length s || outside_length s) where
+  by : (b : Bool) → pick b 2 (record_size s) ≡ pick (eqb (pick b 0 (record_size s)) 0) 2 (pick b 0 (record_size s))
+  by true = refl
+  by false = rw (ne_eqb (record_size s) 0 (λ z. omega arith))
+
+pub told_most : (s : List ℕ) → told_size s ≤ room
+unfolding told_size
+told_most s = by (no_length s) (outside_length s) refl where
+  by : (a b : Bool) → outside_length s ≡ b → pick (a || b) 0 (record_size s) ≤ room
+  by true b o = omega arith
+  by false true o = omega arith
+  by false false o = omega (arith, inside s o)
+
+pub reach_first : (s : List ℕ) → told_size s ≡ 0 → Reach s 2
+reach_first s e = record { is = sym (reach_told s ∙ rw e); small = omega arith }
+
+pub reach_size : (s : List ℕ) (r : ℕ) → r ≡ told_size s → (r ≡ 0 → ⊥) → Reach s r
+reach_size s r e h = record { is = sym (reach_told s ∙ rw (← e, ne_eqb r 0 h)); small = rw e (told_most s) }
+
+-- what is carried, what a part adds up to a count, and what is left of the part, are all
+take_rest : (n : ℕ) (p : List ℕ) → take n p ++ drop (length (take n p)) p ≡ p
+take_rest zero p = refl
+take_rest (suc n) [] = refl
+take_rest (suc n) (b ∷ p) = ap (λ (r : List ℕ). b ∷ r) (take_rest n p)
+
+pub up_to_rest : (to : ℕ) (s p : List ℕ) → (s ++ up_to to s p) ++ drop (length (up_to to s p)) p ≡ s ++ p
+up_to_rest to s p =
+    append_assoc s (up_to to s p) (drop (length (up_to to s p)) p)
+    ∙ ap (λ (r : List ℕ). s ++ r) (take_rest (to - length s) p)
+
+-- where that stays below the count, it is all of the part
+pub up_to_all : (to : ℕ) (s p : List ℕ) → length (s ++ up_to to s p) < to → up_to to s p ≡ p
+up_to_all to s p h =
+    take_all (to - length s) p (omega (arith, length-append s (up_to to s p), length-take (to - length s) p))
+
+-- the first two bytes decide how far a record reaches
+pub reach_same : (s t : List ℕ) → 2 ≤ length s → reach (s ++ t) ≡ reach s
+unfolding reach
+reach_same s t h =
+    let l : 2 ≤ length (s ++ t) = omega (arith, length-append s t) in
+    rw (le-ltb (length (s ++ t)) 2 l, le-ltb (length s) 2 h, length_same s t h)
+
+pub reach_start : (s p : List ℕ) → reach (s ++ up_to 2 s p) ≡ reach (s ++ p)
+reach_start s p = by (leb 2 (length (s ++ up_to 2 s p))) refl where
+  by : (b : Bool) → leb 2 (length (s ++ up_to 2 s p)) ≡ b → reach (s ++ up_to 2 s p) ≡ reach (s ++ p)
+  by true e =
+      sym (reach_same (s ++ up_to 2 s p) (drop (length (up_to 2 s p)) p) (leb-true 2 (length (s ++ up_to 2 s p)) e))
+      ∙ ap reach (up_to_rest 2 s p)
+  by false e = ap (λ (r : List ℕ). reach (s ++ r)) (up_to_all 2 s p (leb-false 2 (length (s ++ up_to 2 s p)) e))
+
+pub reach_least : (s : List ℕ) → 2 ≤ reach s
+unfolding reach
+reach_least s = by (no_length s || outside_length s) where
+  by : (b : Bool) → 2 ≤ pick b 2 (record_size s)
+  by true = omega arith
+  by false = omega arith
+
+-- a record that wants more reaches past what is there, and a whole one just as far as its size
+pub wants_reach : (s t : List ℕ) → wants_more s ≡ true → length s < reach (s ++ t)
+unfolding reach
+wants_reach s t e = by (wants s e) where
+  by : Wants s → length s < reach (s ++ t)
+  by (length_first h) = omega (arith, reach_least (s ++ t))
+  by (then_body h o l) = rw (reach_same s t h, le-ltb (length s) 2 h, o) l
+
+pub front_reach : {s : List ℕ} {n : ℕ} (t : List ℕ) → Front s n → reach (s ++ t) ≡ n
+unfolding reach
+front_reach {s} {n} t f =
+    let h : 2 ≤ length s = omega arith in
+    reach_same s t h ∙ rw (le-ltb (length s) 2 h, le-ltb (length_of s) 2 f.least, le-ltb 64 (length_of s) f.most) (sym f.size)
+
+-- it fits a carry
+pub reach_most : (s : List ℕ) → reach s ≤ room
+reach_most s = rw (reach_told s) (by (eqb (told_size s) 0) (told_size s) (told_most s))
+  where
+    by : (b : Bool) (n : ℕ) → n ≤ room → pick b 2 n ≤ room
+    by true n h = omega arith
+    by false n h = h
+
+-- the first k of a list, and what follows as many
+take_drop_length : (k : ℕ) (l : List ℕ) → take k l ++ drop (length (take k l)) l ≡ l
+take_drop_length zero l = refl
+take_drop_length (suc k) [] = refl
+take_drop_length (suc k) (x ∷ l) = ap (λ m. x ∷ m) (take_drop_length k l)
+
+-- a carry that is filled
+pub fill_carried : (c p : List ℕ) → carried_of (filled_of c p).carry ≡ filled c p
+unfolding topped_of
+fill_carried c p = carried (filled c p)
+
+-- v is what it holds then, and r what is left of the part
+module _ (c p : List ℕ) where
+  abbrev v : List ℕ
+  v = filled c p
+
+  abbrev r : List ℕ
+  r = left c p
+
+  -- nothing is lost
+  pub fill-rest : filled c p ++ left c p ≡ c ++ p
+  fill-rest = up_to_rest (reach (c ++ p)) c p
+
+  -- and what it took, with what is left, is the part
+  pub more_left : more c p ++ left c p ≡ p
+  more_left = take_drop_length (reach (c ++ p) - length c) p
+
+  -- where the record still wants more, the whole part was taken
+  pub fill-wants : wants_more (filled c p) ≡ true → more c p ≡ p
+  fill-wants w = up_to_all (reach (c ++ p)) c p (rw fill-rest at (wants_reach v r w))
+
+  -- where its length lies outside, that is so of all the bytes
+  pub fill-broken : broken (filled c p) ≡ true → broken (c ++ p) ≡ true
+  fill-broken b = rw fill-rest at (broken_append v r b)
+
+  -- where it is whole, it is one record and nothing more
+  pub fill-front : wants_more c ≡ true → cut_at (filled c p) ≡ false → Front (filled c p) (length (filled c p))
+  fill-front w u =
+      let f = uncut_front v u in
+      let n : reach (c ++ p) ≡ record_size v = ap reach (sym fill-rest) ∙ front_reach r f in
+      let l : length v ≡ length c + min (reach (c ++ p) - length c) (length p) =
+      length-append c (more c p) ∙ ap (λ (m : ℕ). length c + m) (length-take (reach (c ++ p) - length c) p) in
+      let e : record_size v ≡ length v = omega (arith, wants_reach c p w, f.fits) in
+      rw e at f
+
+  -- and the rest is read on from the part
+  pub fill-whole : wants_more c ≡ true → cut_at (filled c p) ≡ false → pieces (c ++ p) ≡ then (filled c p ∷ []) (pieces (left c p))
+  fill-whole w u = ap pieces (sym fill-rest) ∙ record-first r (fill-front w u)
+
+  -- it never outgrows a carry
+  pub fill-few : length c ≤ room → length (filled c p) ≤ room
+  fill-few h =
+      let l : length v ≡ length c + min (reach (c ++ p) - length c) (length p) =
+      length-append c (more c p) ∙ ap (λ (m : ℕ). length c + m) (length-take (reach (c ++ p) - length c) p) in
+      omega (arith, reach_most (c ++ p))
+
+  -- so what is read off the carry is what stands at the front of all the bytes
+  pub fill_frame : frame_of (filled c p) ≡ frame_of (c ++ p)
+  fill_frame = by (wants_more v) (broken v) refl refl where
+    by : (a b : Bool) → wants_more v ≡ a → broken v ≡ b → frame_of v ≡ frame_of (c ++ p)
+    by true b w o = ap (λ (m : List ℕ). frame_of (c ++ m)) (fill-wants w)
+    by false true w o = cut_frame v (broken_cut v o) ∙ sym (cut_frame (c ++ p) (broken_cut (c ++ p) (fill-broken o)))
+    by false false w o = sym (frame_append v r (cut_either v ∙ rw (w, o))) ∙ ap frame_of fill-rest
+
+-- bytes that want more, or none
+pub wanting_wants : (s : List ℕ) → wants_more (wanting_of s) ≡ true
+wanting_wants s = by (wants_more s) refl
+  where
+    by : (b : Bool) → wants_more s ≡ b → wants_more (pick b s []) ≡ true
+    by true e = e
+    by false e = none_want
+
+-- so they are kept
+pub keep_wanting : (s : List ℕ) → wants_more s ≡ true → carry_of (take room s) ≡ carry_of (wanting_of s)
+keep_wanting s w = ap carry_of (take_all room s (omega (arith, wants_few s w)) ∙ sym (ap (λ b. pick b s []) w))
+
+-- or given up
+pub drop_broken : (s : List ℕ) → wants_more s ≡ false → carry_of [] ≡ carry_of (wanting_of s)
+drop_broken s w = ap carry_of (sym (ap (λ b. pick b s []) w))

@@ -1,0 +1,40 @@
+// What stands at the front of a log, and how many bytes it takes up.
+ghost use Rattle.std.specs.Prelude.{◌≡◌};
+ghost use Rattle.framing.specs.Frame.{size_of};
+
+// What stands at the front of a slice.
+#[derive(Clone, Copy)]
+pub enum Frame {
+    // No whole record.
+    Cut,
+    // A record that can't be used, and its size with the length's own two bytes.
+    Bad(usize),
+    Transfer {
+        time: u64,
+        rs: bool,
+        rw: bool,
+        data: u8,
+    },
+    Reset {
+        time: u64,
+    },
+}
+
+impl Frame {
+    // The bytes that it takes up: 0 for a cut.
+    pub fn size(self) -> usize
+        ensures { result ≡ size_of self }
+    {
+        match self {
+            Frame::Cut => 0,
+            Frame::Bad(size) => size,
+            Frame::Transfer {
+                time: _,
+                rs: _,
+                rw: _,
+                data: _,
+            } => 14,
+            Frame::Reset { time: _ } => 12,
+        }
+    }
+}
