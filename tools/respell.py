@@ -1,7 +1,7 @@
 #!/usr/bin/env python3
 """Brings the project's own definitions and lemmas to snake case, after the kit's port.py has turned the rest.
 
-usage: tools/respell.py [--dry]      at the top of the repository
+usage: tools/respell.py [--dry]      once, at the top of the repository
 
 A name of a definition, a lemma, a field or a constructor that specs/ or proofs/ declare, and that has a dash or a capital within,
 gets underscores: movedDisplay and place-below become moved_display and place_below. Functions, strings and comments of src/, inputs and
@@ -17,10 +17,26 @@ import sys
 AWAY = {
     "bit-or": "bit_of_or",
     "bit-xor": "bit_of_xor",
+    "blank-past": "blank_past_lem",
+    "chip-of": "chip_of_lem",
+    "code-at": "code_at_lem",
     "found-at": "found_at_lem",
     "found-long": "found_long_lem",
+    "frame-size": "frame_size_lem",
+    "getD-table": "get_d_table",
+    "lit-at": "lit_at_lem",
+    "pattern-fits": "pattern_fits_lem",
+    "put-clock": "put_clock_lem",
+    "put-clock-here": "put_clock_here_lem",
+    "put-here": "put_here_lem",
+    "put-number": "put_number_lem",
+    "put-number-here": "put_number_here_lem",
+    "reset-line": "reset_line_lem",
     "shape-from": "shape_from_lem",
+    "times-of": "times_of_lem",
     "told-size": "told_size_lem",
+    "transfer-line": "transfer_line_lem",
+    "wants-more": "wants_more_lem",
     "with-bit": "with_bit_lem",
 }
 
@@ -29,7 +45,7 @@ SPECS = {"found_in": "found_in_lem", "same_at": "same_at_lem", "same_bits": "sam
 
 WORD = re.compile(r"[^\s(){}⟨⟩,;.·:\"`\[\]|\\]+")
 DECLARED = re.compile(
-    r"^(?:pub |abbrev |unfoldable )*(?!(?:data|record|use|mod|where|unfolding|ruleset|abbrev|pub|unfoldable)\b)([^\s:(){},]+)\s+:\s"
+    r"^\s*(?:pub |abbrev |unfoldable )*(?!(?:data|record|use|mod|where|unfolding|ruleset|abbrev|pub|unfoldable|let|in)\s)([^\s:(){},]+)\s+:\s"
 )
 
 
@@ -97,7 +113,7 @@ def main():
     names = {}
     for path in antt:
         for name in declared(path):
-            if odd(name):
+            if odd(name) and snake(name) != name:
                 names[name] = AWAY.get(name, snake(name))
     for kind, paths in ((turned_antt, antt), (turned_source, sources), (turned_source, edits), (turned_page, pages)):
         for path in paths:

@@ -19,18 +19,18 @@ remains waits later = later
 
 module _ {E A : Type 0} (sort : E → A → Sort) where
   -- the sort of an answered record
-  abbrev pub sortOf : Answered E A → Sort
-  sortOf a = sort a.event a.answer
+  abbrev pub sort_of : Answered E A → Sort
+  sort_of a = sort a.event a.answer
 
   -- whether these records keep the ones that wait before them; what still waits at the end of the log is kept
-  abbrev pub keptBy : List (Answered E A) → Bool
-  keptBy [] = true
-  keptBy (a ∷ later) = settled (sortOf a).others (keptBy later)
+  abbrev pub kept_by : List (Answered E A) → Bool
+  kept_by [] = true
+  kept_by (a ∷ later) = settled (sort_of a).others (kept_by later)
 
   -- the records that stay, each in its place
   abbrev pub unstruck : List (Answered E A) → List (Answered E A)
   unstruck [] = []
-  unstruck (a ∷ later) = pick (remains (sortOf a).own (keptBy later)) (a ∷ unstruck later) (unstruck later)
+  unstruck (a ∷ later) = pick (remains (sort_of a).own (kept_by later)) (a ∷ unstruck later) (unstruck later)
 
 module _ {S E A : Type 0} (m : Machine S E A) where
   -- the log without the struck records

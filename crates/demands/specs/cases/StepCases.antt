@@ -125,26 +125,26 @@ module _ (chip : ℕ) where
       row (panel_on chip before 900 Empty 800) (write_at 1_000 byte) 0 0 14 (panel_with (regs_of chip (doubted after)) display pattern short Empty 1_000)
 
   -- the same at width 4, where the high half waits
-  abbrev pairWrites : Registers → ℕ → Registers → List ℕ → List ℕ → Row
-  pairWrites before byte after display pattern =
+  abbrev pair_writes : Registers → ℕ → Registers → List ℕ → List ℕ → Row
+  pair_writes before byte after display pattern =
       row (panel_on chip before 900 (held 1 0 (byte / 16)) 800) (write_at 1_000 (byte % 16 * 16 + 11)) 0 0 14 (panel_with (regs_of chip (doubted after)) display pattern short Empty 1_000)
 
   -- display memory: the address moves by I/D; with S = 1 the shift moves too, left if I/D = 1, right if 0. Data of 00h and 01h is data
-  abbrev displayWrites : List Row
-  displayWrites =
+  abbrev display_writes : List Row
+  display_writes =
       writes (place (shows 9) 6 1 0) 0x57 (place (shows 10) 6 1 0) (changed 9 0x57) dots
       ∷ writes (place (shows 9) 6 1 1) 0xff (place (shows 10) 7 1 1) (changed 9 0xff) dots
       ∷ writes (place (shows 9) 6 0 0) 0x57 (place (shows 8) 6 0 0) (changed 9 0x57) dots
       ∷ writes (place (shows 9) 6 0 1) 0xff (place (shows 8) 5 0 1) (changed 9 0xff) dots
       ∷ writes (regs (shows 3) 11 1 1 0 1 0 8 10) 0xa6 (regs (shows 4) 12 1 1 0 1 0 8 10) (changed 3 0xa6) dots
-      ∷ pairWrites (down 4) 0x57 (regs (shows 8) 5 0 1 1 0 1 4 5) (changed 9 0x57) dots
-      ∷ pairWrites (down 4) 0x00 (regs (shows 8) 5 0 1 1 0 1 4 5) (changed 9 0x00) dots
-      ∷ pairWrites (down 4) 0x01 (regs (shows 8) 5 0 1 1 0 1 4 5) (changed 9 0x01) dots
+      ∷ pair_writes (down 4) 0x57 (regs (shows 8) 5 0 1 1 0 1 4 5) (changed 9 0x57) dots
+      ∷ pair_writes (down 4) 0x00 (regs (shows 8) 5 0 1 1 0 1 4 5) (changed 9 0x00) dots
+      ∷ pair_writes (down 4) 0x01 (regs (shows 8) 5 0 1 1 0 1 4 5) (changed 9 0x01) dots
       ∷ []
 
   -- pattern memory: the low five bits are stored, the address moves by I/D, and the shift stays whatever S is
-  abbrev patternWrites : List Row
-  patternWrites =
+  abbrev pattern_writes : List Row
+  pattern_writes =
       writes (place (draws 22) 6 1 0) 0xff (place (draws 23) 6 1 0) (memory_of chip) (with 22 0x1f dots)
       ∷ writes (place (draws 22) 6 1 1) 0xe9 (place (draws 23) 6 1 1) (memory_of chip) (with 22 0x09 dots)
       ∷ writes (place (draws 22) 6 0 0) 0x16 (place (draws 21) 6 0 0) (memory_of chip) (with 22 0x16 dots)
@@ -154,7 +154,7 @@ module _ (chip : ℕ) where
       ∷ writes (place (draws 15) 6 1 0) 0x1e (place (draws 16) 6 1 0) (memory_of chip) (with 15 0x1e dots)
       ∷ writes (place (draws 16) 6 0 0) 0x1e (place (draws 15) 6 0 0) (memory_of chip) (with 16 0x1e dots)
       ∷ writes (place (draws 9) 6 1 0) 0x1e (place (draws 10) 6 1 0) (memory_of chip) (with 9 0x1e dots)
-      ∷ pairWrites (up 4) 0xf6 (regs (draws 23) 11 1 0 0 1 0 4 10) (memory_of chip) (with 22 0x16 dots)
+      ∷ pair_writes (up 4) 0xf6 (regs (draws 23) 11 1 0 0 1 0 4 10) (memory_of chip) (with 22 0x16 dots)
       ∷ []
 
   -- a data read at width 8, with other data on the record: registers before, byte, registers afterwards; the memories stay
@@ -163,8 +163,8 @@ module _ (chip : ℕ) where
 
   -- the byte at the address, then the address moves by I/D; no shift whatever S is. Place 9 of display memory holds 69h; places 22, 31, 0, 15, 16
   -- and 8 of pattern memory 25, 28, 7, 12, 23 and 31
-  abbrev dataReads : List Row
-  dataReads =
+  abbrev data_reads : List Row
+  data_reads =
       reads (place (shows 9) 6 1 0) 0x69 (place (shows 10) 6 1 0)
       ∷ reads (place (shows 9) 6 1 1) 0x69 (place (shows 10) 6 1 1)
       ∷ reads (place (shows 9) 6 0 0) 0x69 (place (shows 8) 6 0 0)
@@ -194,7 +194,7 @@ module _ (chip : ℕ) where
   instructions = clears ++ homes ++ settings ++ addresses ++ moves ++ turns
 
   abbrev transfers : List Row
-  transfers = displayWrites ++ patternWrites ++ dataReads ++ resets
+  transfers = display_writes ++ pattern_writes ++ data_reads ++ resets
 
 -- ON ONE LINE: a display address keeps four bits, and wraps 15 to 0 and 0 to 15. Places 15 and 0 hold 0Fh and F0h
 abbrev on_one_line : List Row

@@ -18,15 +18,15 @@ use Rattle.mirror.specs.engine.Record.{answered}
 use Rattle.mirror.specs.Table.{record_of}
 use Rattle.mirror.specs.laws.TableLaws.{answered_sound}
 use Rattle.mirror.specs.laws.SoundParts.{whole}
-use Rattle.mirror.specs.laws.SoundLaws.{Lasts, record-lasts}
+use Rattle.mirror.specs.laws.SoundLaws.{Lasts, record_lasts}
 use Rattle.mirror.specs.Answers.{ByteLog, Proper}
 use Rattle.mirror.specs.laws.TypedLaws.{proper_lasts, typed_proper}
 use Rattle.mirror.specs.Run.{started, onward}
 use Rattle.mirror.specs.laws.RunLaws.{answered_used, cut_used, uncut_used}
 use Rattle.mirror.specs.Stream.{start_as, start_of, waiting_bytes, rested_of, feed_of, next_of, end_of, run_of}
-use Rattle.mirror.specs.laws.StreamLaws.{fed, feed-append, feed_run}
+use Rattle.mirror.specs.laws.StreamLaws.{fed, feed_append, feed_run}
 use Rattle.mirror.specs.laws.NextLaws.{next_over}
-use Rattle.mirror.specs.laws.AskedLaws.{one_record, taken_part, accepted, stands_at, frames-over, stream-over, frames-more, stream-more, cut-next, whole-next}
+use Rattle.mirror.specs.laws.AskedLaws.{one_record, taken_part, accepted, stands_at, frames_over, stream_over, frames_more, stream_more, cut_next, whole_next}
 use Rattle.mirror.specs.declared.panel.Panel.{Panel}
 use Rattle.mirror.specs.declared.record.Recorded.{Recorded}
 use Rattle.mirror.specs.declared.stream.Stream.{Stream}
@@ -45,9 +45,9 @@ module _ (p : Panel) (s : List ℕ) (l : Lasts p) where
   by_frame : record_of p s ≡ answered (frame_of s) p
   by_frame = sym (answered_sound p s (whole p l.sound))
 
-  used-by : (x : Bool) → eqb (record_of p s).used 0 ≡ x → cut_at s ≡ x
-  used-by true e = cut_used s p (ap (λ (r : Recorded). r.used) (sym by_frame) ∙ eqb-true (record_of p s).used 0 e)
-  used-by false e = uncut_used s p (λ z. eqb-false (record_of p s).used 0 e (ap (λ (r : Recorded). r.used) by_frame ∙ z))
+  used_by : (x : Bool) → eqb (record_of p s).used 0 ≡ x → cut_at s ≡ x
+  used_by true e = cut_used s p (ap (λ (r : Recorded). r.used) (sym by_frame) ∙ eqb-true (record_of p s).used 0 e)
+  used_by false e = uncut_used s p (λ z. eqb-false (record_of p s).used 0 e (ap (λ (r : Recorded). r.used) by_frame ∙ z))
 
   -- the bytes that it uses are the record's
   uses : cut_at s ≡ false → (record_of p s).used ≡ record_size s
@@ -93,18 +93,18 @@ one_call n p s few l b more = by (eqb (record_of p s).used 0) refl
   where
     by : (x : Bool) → eqb (record_of p s).used 0 ≡ x → Calls (suc n) p s
     by true e =
-        let z = ends p s (used-by p s l true e) in
+        let z = ends p s (used_by p s l true e) in
         let r = record_of p s in
         record {
           replies = ap (λ c. pick c [] ((out_of r).answer ∷ calls_of n r.panel (drop r.used s))) e ∙ z.replies;
           panel = ap (λ c. pick c p (left_of n r.panel (drop r.used s))) e ∙ z.panel;
         }
     by false e =
-        let u = used-by p s l false e in
+        let u = used_by p s l false e in
         let r = record_of p s in
         let f = uncut_front s u in
         let m = more (omega (arith, few, uses p s l u, length-drop r.used s, f.fits, f.least))
-        (record-lasts p s (b 13) l) (λ i. rw (get_or-drop r.used s i 0) (b (r.used + i))) in
+        (record_lasts p s (b 13) l) (λ i. rw (get_or-drop r.used s i 0) (b (r.used + i))) in
         let g = goes n p s l u m in
         record {
           replies = ap (λ c. pick c [] ((out_of r).answer ∷ calls_of n r.panel (drop r.used s))) e ∙ g.0;
@@ -132,9 +132,9 @@ record Told (p : Panel) (log : List ℕ) (replies : List Response) (st : Stream)
   replies_are : replies ≡ told (answers_by engine p log)
 
 module _ (p : Panel) where
-  told-start : Told p [] [] (start_as true p)
+  told_start : Told p [] [] (start_as true p)
   unfolding onward
-  told-start =
+  told_start =
       let n = wants_cut [] none_want in
       record {
         stream =
@@ -166,16 +166,16 @@ module _ (p : Panel) where
       v = filled (waiting_bytes st) part
 
       -- the stream afterwards, whatever the call comes to
-      stream-is : (n : Next) → next_of st part ≡ n → n.taken ≡ length m → n.stream ≡ feed_of (start_as true p) (log ++ take n.taken part)
-      stream-is n e t =
-          ap (λ (x : Next). x.stream) (sym e) ∙ stream-more p log st h.stream part going
+      stream_is : (n : Next) → next_of st part ≡ n → n.taken ≡ length m → n.stream ≡ feed_of (start_as true p) (log ++ take n.taken part)
+      stream_is n e t =
+          ap (λ (x : Next). x.stream) (sym e) ∙ stream_more p log st h.stream part going
           ∙ ap (λ x. feed_of (start_as true p) (log ++ x)) (sym (taken_part st part) ∙ ap (λ k. take k part) (sym t))
 
-      answers-are : (k : ℕ) → k ≡ length m → (fs : List (List ℕ)) → frames v ≡ fs →
+      answers_are : (k : ℕ) → k ≡ length m → (fs : List (List ℕ)) → frames v ≡ fs →
           told (answers_by engine p (log ++ take k part)) ≡ replies ++ told (run (machine_of engine) st.totals.panel fs)
-      answers-are k t fs e =
+      answers_are k t fs e =
           ap (λ x. told (answers_by engine p (log ++ x))) (ap (λ x. take x part) t ∙ taken_part st part)
-          ∙ ap (λ x. told (run (machine_of engine) p x)) (frames-more p log st h.stream part going ∙ ap (λ x. frames log ++ x) e)
+          ∙ ap (λ x. told (run (machine_of engine) p x)) (frames_more p log st h.stream part going ∙ ap (λ x. frames log ++ x) e)
           ∙ told_append (frames log) fs p
           ∙ ap (λ x. x ++ told (run (machine_of engine) (final (machine_of engine) p (frames log)) fs)) (sym h.replies_are)
           ∙ ap (λ (q : Panel). replies ++ told (run (machine_of engine) q fs))
@@ -187,18 +187,18 @@ module _ (p : Panel) where
 
       still : cut_at v ≡ true → After (next_of st part)
       still u =
-          let e = cut-next p log st h.stream part going u in
+          let e = cut_next p log st h.stream part going u in
           subst After (sym e)
           (record {
-            stream = stream-is _ e refl;
-            replies_are = ap (λ x. replies ++ x) (silent (wants_more v)) ∙ sym (answers-are (length m) refl [] (frames_cut v u));
+            stream = stream_is _ e refl;
+            replies_are = ap (λ x. replies ++ x) (silent (wants_more v)) ∙ sym (answers_are (length m) refl [] (frames_cut v u));
           })
 
-      whole-one : cut_at v ≡ false → After (next_of st part)
-      whole-one u =
-          let e = whole-next p log st h.stream part going u in
+      whole_one : cut_at v ≡ false → After (next_of st part)
+      whole_one u =
+          let e = whole_next p log st h.stream part going u in
           subst After (sym e)
-          (record { stream = stream-is _ e refl; replies_are = sym (answers-are (length m) refl (v ∷ []) (one_record st part u)) })
+          (record { stream = stream_is _ e refl; replies_are = sym (answers_are (length m) refl (v ∷ []) (one_record st part u)) })
 
     one_more : After (next_of st part)
     one_more = by st.over refl (cut_at (filled (waiting_bytes st) part)) refl
@@ -206,23 +206,23 @@ module _ (p : Panel) where
         by : (o : Bool) → st.over ≡ o → (k : Bool) → cut_at (filled (waiting_bytes st) part) ≡ k → After (next_of st part)
         by true o k u = over o
         by false o true u = still o u
-        by false o false u = whole-one o u
+        by false o false u = whole_one o u
 
-  told-all : sound_panel p ≡ true → {log : List ℕ} {replies : List Response} {st : Stream} → Asked p log replies st → Told p log replies st
-  told-all e begun = subst (λ b. Told p [] [] (start_as b p)) (sym e) told-start
-  told-all e (asked {log} {replies} {st} before part) = one_more log replies st (told-all e before) part
-  told-all e (ended {log} {replies} {st} before over rest) =
-      let h = told-all e before in
+  told_all : sound_panel p ≡ true → {log : List ℕ} {replies : List Response} {st : Stream} → Asked p log replies st → Told p log replies st
+  told_all e begun = subst (λ b. Told p [] [] (start_as b p)) (sym e) told_start
+  told_all e (asked {log} {replies} {st} before part) = one_more log replies st (told_all e before) part
+  told_all e (ended {log} {replies} {st} before over rest) =
+      let h = told_all e before in
       record {
-        stream = stream-over p log st h.stream over rest;
-        replies_are = h.replies_are ∙ ap (λ fs. told (run (machine_of engine) p fs)) (sym (frames-over p log st h.stream over rest));
+        stream = stream_over p log st h.stream over rest;
+        replies_are = h.replies_are ∙ ap (λ fs. told (run (machine_of engine) p fs)) (sym (frames_over p log st h.stream over rest));
       }
 
 -- BY `feed`: parts one after another are their bytes together
 fed_parts : (parts : List (List ℕ)) (st : Stream) (log : List ℕ) → fed_all (feed_of st log) parts ≡ feed_of st (log ++ joined parts)
 fed_parts [] st log = ap (feed_of st) (sym (append-nil log))
 fed_parts (part ∷ parts) st log =
-    ap (λ x. fed_all x parts) (feed-append st log part) ∙ fed_parts parts st (log ++ part) ∙ ap (feed_of st) (append_assoc log part (joined parts))
+    ap (λ x. fed_all x parts) (feed_append st log part) ∙ fed_parts parts st (log ++ part) ∙ ap (feed_of st) (append_assoc log part (joined parts))
 
 fed_start : (b : Bool) (p : Panel) → feed_of (start_as b p) [] ≡ start_as b p
 unfolding onward
@@ -244,8 +244,8 @@ chain p log h =
     record {
       calls = c.replies ∙ a;
       left = c.panel ∙ q;
-      nexts = λ replies st x. (told-all p h.sound x).replies_are ∙ a;
-      stands = λ replies st x. let t = (told-all p h.sound x).stream in
+      nexts = λ replies st x. (told_all p h.sound x).replies_are ∙ a;
+      stands = λ replies st x. let t = (told_all p h.sound x).stream in
           ap (λ b. pick b st.given st.totals.panel) (accepted p log st t) ∙ stands_at p log st t ∙ onward_panel (started p) (frames log) ∙ q;
       whole = of_run p log h;
       parts = λ parts e. fed_run p parts ∙ ap (run_of p) e;

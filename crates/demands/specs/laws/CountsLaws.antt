@@ -7,7 +7,7 @@ use Rattle.laws.specs.Pick.{pick}
 use Rattle.framing.specs.Frame.{record_size, time_of, rs_of, rw_of, data_of, is_reset, cut_at, bad_at, frame_of}
 use Rattle.framing.specs.Frames.{frames, records_of}
 use Rattle.framing.specs.laws.FrameLaws.{IsRecord}
-use Rattle.framing.specs.laws.FramesLaws.{AllRecords, frames_cut, frames_next, frames-induction, frames_are_records}
+use Rattle.framing.specs.laws.FramesLaws.{AllRecords, frames_cut, frames_next, frames_induction, frames_are_records}
 use Rattle.framing.specs.laws.FrontLaws.{uncut_front}
 use Rattle.framing.specs.declared.frame.Frame.{Frame}
 use Rattle.framing.specs.declared.frame.Frame.TheVariants as frame
@@ -165,7 +165,7 @@ capped_small n h = by (ltb n most_count) refl
 -- a log has no more records than bytes
 few_records : (log : List ℕ) → records_of log ≤ length log
 few_records =
-    frames-induction (λ s. records_of s ≤ length s) (λ s u. rw (frames_cut s u) (omega arith))
+    frames_induction (λ s. records_of s ≤ length s) (λ s u. rw (frames_cut s u) (omega arith))
     (λ s u h. rw (frames_next s u) (omega (arith, h, length-drop (record_size s) s, (uncut_front s u).fits, (uncut_front s u).least)))
 
 in_count : (log : List ℕ) → InMemory log → capped (records_of log) ≡ records_of log

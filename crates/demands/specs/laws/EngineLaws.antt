@@ -7,7 +7,7 @@ use Rattle.mirror.specs.Panel.{sound_panel}
 use Rattle.mirror.specs.engine.Record.{answered}
 use Rattle.mirror.specs.laws.TableLaws.{answered_sound}
 use Rattle.mirror.specs.laws.SoundParts.{whole}
-use Rattle.mirror.specs.laws.SoundLaws.{Lasts, record-lasts}
+use Rattle.mirror.specs.laws.SoundLaws.{Lasts, record_lasts}
 use Rattle.mirror.specs.Answers.{Proper, panel_after}
 use Rattle.mirror.specs.laws.TypedLaws.{AllData, frames_data, proper_lasts}
 use Rattle.mirror.specs.declared.panel.Panel.{Panel}
@@ -28,13 +28,13 @@ pub same_run : (fs : List (List ℕ)) (p : Panel) → Lasts p → AllData fs →
 same_run [] p l d = refl
 same_run (f ∷ fs) p l d =
     ap (λ (o : Out Panel Response). machine.answered f o.answer ∷ run (machine_of engine) o.state fs) (same_step p f (whole p l.sound))
-    ∙ ap (λ rest. machine.answered f (ours p f).answer ∷ rest) (same_run fs (panel_after p f) (record-lasts p f d.0 l) d.1)
+    ∙ ap (λ rest. machine.answered f (ours p f).answer ∷ rest) (same_run fs (panel_after p f) (record_lasts p f d.0 l) d.1)
 
 pub same_final : (fs : List (List ℕ)) (p : Panel) → Lasts p → AllData fs → final (machine_of engine) p fs ≡ final (machine_of ours) p fs
 same_final [] p l d = refl
 same_final (f ∷ fs) p l d =
     ap (λ (o : Out Panel Response). final (machine_of engine) o.state fs) (same_step p f (whole p l.sound))
-    ∙ same_final fs (panel_after p f) (record-lasts p f d.0 l) d.1
+    ∙ same_final fs (panel_after p f) (record_lasts p f d.0 l) d.1
 
 -- so for a log
 pub same_answers : (p : Panel) (log : List ℕ) → Proper p log → answers_by engine p log ≡ answers_by ours p log

@@ -54,37 +54,37 @@ module _ (time : ℕ) (r w : Bool) (bus byte : ℕ) (p : Panel) where
   ignores v = eqb (number_of (went v time r w bus byte p).answer) 3
 
   -- a write that is complete does not
-  finish-heard : (rs : Bool) (b : ℕ) → ignores (finish_of rs b) ≡ false
-  finish-heard true b = refl
-  finish-heard false b = by (eqb b 0)
+  finish_heard : (rs : Bool) (b : ℕ) → ignores (finish_of rs b) ≡ false
+  finish_heard true b = refl
+  finish_heard false b = by (eqb b 0)
     where
       by : (z : Bool) → ignores (pick z Way.Nothing Way.Obey) ≡ false
       by true = refl
       by false = refl
 
   -- nor does a data read that is carried out
-  read-heard : (good : Bool) → eqb (number_of (read_as good)) 3 ≡ false
-  read-heard true = refl
-  read-heard false = refl
+  read_heard : (good : Bool) → eqb (number_of (read_as good)) 3 ≡ false
+  read_heard true = refl
+  read_heard false = refl
 
-  whole-ignores : (z rs reads : Bool) (b : ℕ) → (rs || not reads) ≡ true → ignores (whole_of z rs reads b) ≡ not z
-  whole-ignores true rs false b u = finish-heard rs b
-  whole-ignores false rs false b u = refl
-  whole-ignores true true true b u = read-heard (is_good p)
-  whole-ignores false true true b u = refl
-  whole-ignores z false true b u = absurd (false≢true u)
+  whole_ignores : (z rs reads : Bool) (b : ℕ) → (rs || not reads) ≡ true → ignores (whole_of z rs reads b) ≡ not z
+  whole_ignores true rs false b u = finish_heard rs b
+  whole_ignores false rs false b u = refl
+  whole_ignores true true true b u = read_heard (is_good p)
+  whole_ignores false true true b u = refl
+  whole_ignores z false true b u = absurd (false≢true u)
 
-  first-ignores : (z rs reads : Bool) → (rs || not reads) ≡ true → ignores (first_of z rs reads) ≡ not z
-  first-ignores true rs false u = refl
-  first-ignores false rs false u = refl
-  first-ignores true true true u = refl
-  first-ignores false true true u = refl
-  first-ignores z false true u = absurd (false≢true u)
+  first_ignores : (z rs reads : Bool) → (rs || not reads) ≡ true → ignores (first_of z rs reads) ≡ not z
+  first_ignores true rs false u = refl
+  first_ignores false rs false u = refl
+  first_ignores true true true u = refl
+  first_ignores false true true u = refl
+  first_ignores z false true u = absurd (false≢true u)
 
-  second-heard : (rs reads : Bool) (b : ℕ) → ignores (second_of rs reads b) ≡ false
-  second-heard rs false b = finish-heard rs b
-  second-heard true true b = read-heard (is_good p)
-  second-heard false true b = refl
+  second_heard : (rs reads : Bool) (b : ℕ) → ignores (second_of rs reads b) ≡ false
+  second_heard rs false b = finish_heard rs b
+  second_heard true true b = read_heard (is_good p)
+  second_heard false true b = refl
 
   -- a second half that matches goes its way
   untorn : (a b : Bool) (v : Way) → (a && b) ≡ true → ignores (pick (not a) Way.Torn (pick (not b) Way.Torn v)) ≡ ignores v
@@ -92,13 +92,13 @@ module _ (time : ℕ) (r w : Bool) (bus byte : ℕ) (p : Panel) where
   untorn true false v e = absurd (false≢true e)
   untorn false b v e = absurd (false≢true e)
 
-  way-ignores : (eight : Bool) (h : Half) (z rs reads : Bool) (b : ℕ) → Narrow eight h → (rs || not reads) ≡ true → matching h rs reads ≡ true →
+  way_ignores : (eight : Bool) (h : Half) (z rs reads : Bool) (b : ℕ) → Narrow eight h → (rs || not reads) ≡ true → matching h rs reads ≡ true →
       ignores (way_of eight h z rs reads b) ≡ begun_busy h z
-  way-ignores true h z rs reads b n u m = whole-ignores z rs reads b u ∙ sym (ap (λ x. begun_busy x z) (n refl))
-  way-ignores false Empty z rs reads b n u m = first-ignores z rs reads u
-  way-ignores false (Ignored r₁ w₁) z rs reads b n u m = untorn (beq r₁ rs) (beq w₁ reads) Way.Ignored m
-  way-ignores false (Waiting r₁ w₁ nibble) z rs reads b n u m =
-      untorn (beq r₁ rs) (beq w₁ reads) (second_of rs reads b) m ∙ second-heard rs reads b
+  way_ignores true h z rs reads b n u m = whole_ignores z rs reads b u ∙ sym (ap (λ x. begun_busy x z) (n refl))
+  way_ignores false Empty z rs reads b n u m = first_ignores z rs reads u
+  way_ignores false (Ignored r₁ w₁) z rs reads b n u m = untorn (beq r₁ rs) (beq w₁ reads) Way.Ignored m
+  way_ignores false (Waiting r₁ w₁ nibble) z rs reads b n u m =
+      untorn (beq r₁ rs) (beq w₁ reads) (second_of rs reads b) m ∙ second_heard rs reads b
 
 -- DEMAND 2, THE BUSY RULE
 pub ignores_busy : IgnoresBusy ours
@@ -107,64 +107,64 @@ ignores_busy p bytes time rs reads bus s f l u m =
     let eight = p.sheet.registers.eight in
     let byte = joined_of eight p.half bus in
     ap (λ (r : Recorded). eqb (number_of r.answer) 3) (sym (answered_sound p bytes s) ∙ in_time p bytes time rs reads bus f l)
-    ∙ way-ignores time rs reads bus byte p eight p.half (free time p) rs reads byte (sound_narrow p s) u m
+    ∙ way_ignores time rs reads bus byte p eight p.half (free time p) rs reads byte (sound_narrow p s) u m
 
 module _ (time : ℕ) (r w : Bool) (bus byte : ℕ) (p : Panel) where
   -- the sheet that a way comes to
-  abbrev sheetBy : Way → Sheet
-  sheetBy v = (went v time r w bus byte p).panel.sheet
+  abbrev sheet_by : Way → Sheet
+  sheet_by v = (went v time r w bus byte p).panel.sheet
 
-  finish-sheet : (rs : Bool) → sheetBy (finish_of rs byte) ≡ carried_all (entry_of rs false byte) p.sheet
-  finish-sheet true = refl
-  finish-sheet false = by (eqb byte 0) refl
+  finish_sheet : (rs : Bool) → sheet_by (finish_of rs byte) ≡ carried_all (entry_of rs false byte) p.sheet
+  finish_sheet true = refl
+  finish_sheet false = by (eqb byte 0) refl
     where
-      by : (z : Bool) → eqb byte 0 ≡ z → sheetBy (pick z Way.Nothing Way.Obey) ≡ obeyed byte p.sheet
+      by : (z : Bool) → eqb byte 0 ≡ z → sheet_by (pick z Way.Nothing Way.Obey) ≡ obeyed byte p.sheet
       by true e = sym (ap (λ n. obeyed n p.sheet) (eqb-true byte 0 e))
       by false e = refl
 
-  whole-sheet : (z rs reads : Bool) → sheetBy (whole_of z rs reads byte) ≡ carried_all (entries_at true Empty z rs reads byte) p.sheet
-  whole-sheet true rs false = finish-sheet rs
-  whole-sheet true true true = refl
-  whole-sheet true false true = refl
-  whole-sheet false rs false = refl
-  whole-sheet false true true = refl
-  whole-sheet false false true = refl
+  whole_sheet : (z rs reads : Bool) → sheet_by (whole_of z rs reads byte) ≡ carried_all (entries_at true Empty z rs reads byte) p.sheet
+  whole_sheet true rs false = finish_sheet rs
+  whole_sheet true true true = refl
+  whole_sheet true false true = refl
+  whole_sheet false rs false = refl
+  whole_sheet false true true = refl
+  whole_sheet false false true = refl
 
-  first-sheet : (z rs reads : Bool) → sheetBy (first_of z rs reads) ≡ carried_all (entries_at false Empty z rs reads bus) p.sheet
-  first-sheet true rs false = refl
-  first-sheet true true true = refl
-  first-sheet true false true = refl
-  first-sheet false rs false = refl
-  first-sheet false true true = refl
-  first-sheet false false true = refl
+  first_sheet : (z rs reads : Bool) → sheet_by (first_of z rs reads) ≡ carried_all (entries_at false Empty z rs reads bus) p.sheet
+  first_sheet true rs false = refl
+  first_sheet true true true = refl
+  first_sheet true false true = refl
+  first_sheet false rs false = refl
+  first_sheet false true true = refl
+  first_sheet false false true = refl
 
-  second-sheet : (rs reads : Bool) → sheetBy (second_of rs reads byte) ≡ carried_all (entry_of rs reads byte) p.sheet
-  second-sheet rs false = finish-sheet rs
-  second-sheet true true = refl
-  second-sheet false true = refl
+  second_sheet : (rs reads : Bool) → sheet_by (second_of rs reads byte) ≡ carried_all (entry_of rs reads byte) p.sheet
+  second_sheet rs false = finish_sheet rs
+  second_sheet true true = refl
+  second_sheet false true = refl
 
-  torn-sheet : (a b : Bool) (v : Way) (es : List Entry) → sheetBy v ≡ carried_all es p.sheet →
-      sheetBy (pick (not a) Way.Torn (pick (not b) Way.Torn v)) ≡ carried_all (pick (a && b) es []) p.sheet
-  torn-sheet true true v es h = h
-  torn-sheet true false v es h = refl
-  torn-sheet false b v es h = refl
+  torn_sheet : (a b : Bool) (v : Way) (es : List Entry) → sheet_by v ≡ carried_all es p.sheet →
+      sheet_by (pick (not a) Way.Torn (pick (not b) Way.Torn v)) ≡ carried_all (pick (a && b) es []) p.sheet
+  torn_sheet true true v es h = h
+  torn_sheet true false v es h = refl
+  torn_sheet false b v es h = refl
 
 ignored_sheet : (a b : Bool) (time : ℕ) (r w : Bool) (bus byte : ℕ) (p : Panel) →
-    sheetBy time r w bus byte p (pick (not a) Way.Torn (pick (not b) Way.Torn Way.Ignored)) ≡ p.sheet
+    sheet_by time r w bus byte p (pick (not a) Way.Torn (pick (not b) Way.Torn Way.Ignored)) ≡ p.sheet
 ignored_sheet true true time r w bus byte p = refl
 ignored_sheet true false time r w bus byte p = refl
 ignored_sheet false b time r w bus byte p = refl
 
 way_sheet : (eight : Bool) (h : Half) (z rs reads : Bool) (time bus : ℕ) (p : Panel) → Narrow eight h →
-    sheetBy time rs reads bus (joined_of eight h bus) p (way_of eight h z rs reads (joined_of eight h bus)) ≡ carried_all (entries_at eight h z rs reads bus) p.sheet
+    sheet_by time rs reads bus (joined_of eight h bus) p (way_of eight h z rs reads (joined_of eight h bus)) ≡ carried_all (entries_at eight h z rs reads bus) p.sheet
 way_sheet true h z rs reads time bus p n =
-    subst (λ x. sheetBy time rs reads bus bus p (whole_of z rs reads bus) ≡ carried_all (entries_at true x z rs reads bus) p.sheet) (sym (n refl))
-    (whole-sheet time rs reads bus bus p z rs reads)
-way_sheet false Empty z rs reads time bus p n = first-sheet time rs reads bus (joined_of false Empty bus) p z rs reads
+    subst (λ x. sheet_by time rs reads bus bus p (whole_of z rs reads bus) ≡ carried_all (entries_at true x z rs reads bus) p.sheet) (sym (n refl))
+    (whole_sheet time rs reads bus bus p z rs reads)
+way_sheet false Empty z rs reads time bus p n = first_sheet time rs reads bus (joined_of false Empty bus) p z rs reads
 way_sheet false (Ignored a b) z rs reads time bus p n = ignored_sheet (beq a rs) (beq b reads) time rs reads bus (joined_of false (Ignored a b) bus) p
 way_sheet false (Waiting a b nibble) z rs reads time bus p n =
     let byte = joined_of false (Waiting a b nibble) bus in
-    torn-sheet time rs reads bus byte p (beq a rs) (beq b reads) (second_of rs reads byte) (entry_of rs reads byte) (second-sheet time rs reads bus byte p rs reads)
+    torn_sheet time rs reads bus byte p (beq a rs) (beq b reads) (second_of rs reads byte) (entry_of rs reads byte) (second_sheet time rs reads bus byte p rs reads)
 
 -- DEMAND 2, THE STEPS
 pub steps : DoesSteps ours

@@ -17,7 +17,7 @@ use Rattle.mirror.specs.declared.half.Half.TheVariants.{Empty}
 use Rattle.mirror.specs.declared.panel.Panel.{Panel}
 use Rattle.striking.specs.Machine.{Sort, Answered, events, run, final}
 use Rattle.striking.specs.Striking.{remains, unstruck, struck, Struck}
-use Rattle.striking.specs.Striking.{keptBy as kept}
+use Rattle.striking.specs.Striking.{kept_by as kept}
 use Rattle.striking.specs.laws.StrikingLaws.{striking}
 use Rattle.demands.specs.Mirrors.{Response, Mirror, ours, sort_for, settled_panel, machine_of}
 use Rattle.demands.specs.Answers.{answers_by, panel_by}
@@ -31,20 +31,20 @@ abbrev told : List ℕ → Answer → ℕ → Answered (List ℕ) Response
 told bytes answer byte = record { event = bytes; answer = record { answer = answer; byte = byte } }
 
 module _ (bytes : List ℕ) (byte : ℕ) (left all : List (Answered (List ℕ) Response)) where
-  taken-one : (a : Answer) (later : Bool) → takens left ≡ takens all →
+  taken_one : (a : Answer) (later : Bool) → takens left ≡ takens all →
       takens (pick (remains (sort_for a).own later) (told bytes a byte ∷ left) left) ≡ takens (told bytes a byte ∷ all)
-  taken-one say.Taken later h = ap (λ l. told bytes say.Taken byte ∷ l) h
-  taken-one say.Doubtful later h = ap (λ l. told bytes say.Doubtful byte ∷ l) h
-  taken-one say.Held true h = h
-  taken-one say.Held false h = h
-  taken-one say.Status later h = h
-  taken-one say.Ignored later h = h
-  taken-one say.Torn later h = h
-  taken-one say.Back later h = h
-  taken-one say.Bad later h = h
-  taken-one say.Nothing later h = h
-  taken-one say.Cut later h = h
-  taken-one say.Unsound later h = h
+  taken_one say.Taken later h = ap (λ l. told bytes say.Taken byte ∷ l) h
+  taken_one say.Doubtful later h = ap (λ l. told bytes say.Doubtful byte ∷ l) h
+  taken_one say.Held true h = h
+  taken_one say.Held false h = h
+  taken_one say.Status later h = h
+  taken_one say.Ignored later h = h
+  taken_one say.Torn later h = h
+  taken_one say.Back later h = h
+  taken_one say.Bad later h = h
+  taken_one say.Nothing later h = h
+  taken_one say.Cut later h = h
+  taken_one say.Unsound later h = h
 
   held_one : (a : Answer) (later : Bool) → TakenOrHeld left → TakenOrHeld (pick (remains (sort_for a).own later) (told bytes a byte ∷ left) left)
   held_one say.Taken later h = (refl, h)
@@ -65,14 +65,14 @@ module _ (m : Mirror) where
   sort = (machine_of m).sort
 
   -- no record that was taken is struck
-  pub taken-stays : (l : List (Answered (List ℕ) Response)) → takens (unstruck sort l) ≡ takens l
-  taken-stays [] = refl
-  taken-stays (a ∷ l) = taken-one a.event a.answer.byte (unstruck sort l) l a.answer.answer (kept sort l) (taken-stays l)
+  pub taken_stays : (l : List (Answered (List ℕ) Response)) → takens (unstruck sort l) ≡ takens l
+  taken_stays [] = refl
+  taken_stays (a ∷ l) = taken_one a.event a.answer.byte (unstruck sort l) l a.answer.answer (kept sort l) (taken_stays l)
 
   -- and of all others only held ones stay: none that is ignored, unusable or a completed status read
-  pub only-taken-or-held : (l : List (Answered (List ℕ) Response)) → TakenOrHeld (unstruck sort l)
-  only-taken-or-held [] = tt
-  only-taken-or-held (a ∷ l) = held_one a.event a.answer.byte (unstruck sort l) l a.answer.answer (kept sort l) (only-taken-or-held l)
+  pub only_taken_or_held : (l : List (Answered (List ℕ) Response)) → TakenOrHeld (unstruck sort l)
+  only_taken_or_held [] = tt
+  only_taken_or_held (a ∷ l) = held_one a.event a.answer.byte (unstruck sort l) l a.answer.answer (kept sort l) (only_taken_or_held l)
 
 -- some of a log's records are records
 records_some : {a b : List (List ℕ)} → Sublistᴰ a b → AllRecords b → AllRecords a
@@ -93,8 +93,8 @@ engine_struck p n log =
     let back = joined_back (struck m p (frames log)) (records_some s.in_order (frames_are_records log)) in
     let read : frames (struck_log engine p log) ≡ struck m p (frames log) = ap (λ (x : Pieces). x.records) back in
     record {
-      taken = taken-stays engine (answers_by engine p log);
-      others = only-taken-or-held engine (answers_by engine p log);
+      taken = taken_stays engine (answers_by engine p log);
+      others = only_taken_or_held engine (answers_by engine p log);
       records = read;
       whole = ap (λ (x : Pieces). x.rest) back;
       in_order = subst (λ x. Sublistᴰ x (frames log)) (sym read) s.in_order;
@@ -104,17 +104,17 @@ engine_struck p n log =
     }
 
 -- some of the records that carry bytes carry bytes
-data-some : {a b : List (List ℕ)} → Sublistᴰ a b → AllData b → AllData a
-data-some Sublistᴰ.slnil h = tt
-data-some (Sublistᴰ.cons s) h = data-some s h.1
-data-some (Sublistᴰ.cons-cons e s) h = (subst (λ f. data_of f < 256) (sym e) h.0, data-some s h.1)
+data_some : {a b : List (List ℕ)} → Sublistᴰ a b → AllData b → AllData a
+data_some Sublistᴰ.slnil h = tt
+data_some (Sublistᴰ.cons s) h = data_some s h.1
+data_some (Sublistᴰ.cons-cons e s) h = (subst (λ f. data_of f < 256) (sym e) h.0, data_some s h.1)
 
 -- what is claimed of the engine holds of the table
 as_table : (p : Panel) (log : List ℕ) → Proper p log → StruckFrom engine p log → StruckFrom ours p log
 as_table p log c h =
     let s = struck_log engine p log in
     let l = proper_lasts c in
-    let d : AllData (frames s) = data-some h.in_order (frames_data log c.bytes) in
+    let d : AllData (frames s) = data_some h.in_order (frames_data log c.bytes) in
     let a = same_answers p log c in
     let b : answers_by engine p s ≡ answers_by ours p s = same_run (frames s) p l d in
     let k : stayed engine p log ≡ stayed ours p log = ap (unstruck (machine_of ours).sort) a in
@@ -148,7 +148,7 @@ strike_run chip reset long short log t =
     let p = fresh_panel chip reset long short in
     let s = strike chip reset long short log t in
     let struck = struck_log ours p log in
-    let d : AllData (frames struck) = data-some s.in_order (frames_data log t.bytes) in
+    let d : AllData (frames struck) = data_some s.in_order (frames_data log t.bytes) in
     let one : (run_of p struck).panel ≡ panel_by ours p struck = (of_engine p struck (typed_proper t).sound).panel ∙ same_final (frames struck) p (typed_lasts t) d in
     let e : settled_panel (run_of p struck).panel ≡ settled_panel (run_of p log).panel =
     ap settled_panel one ∙ s.panel ∙ sym (ap settled_panel (of_run p log (typed_proper t)).panel) in

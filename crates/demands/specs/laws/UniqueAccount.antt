@@ -18,33 +18,33 @@ use Rattle.demands.specs.Unique.{DeterminesAnswer, equation}
 
 module _ {M : Type 1} {𝓤 : Ura M} (𝓛 : Logic 𝓤) (mem : Memory → SProp 𝓤) (run : Routine → Fun 𝓤) where
   -- account::account::Account::start: r ≡ accountStart panel
-  pub account-start : DeterminesAnswer 𝓤 account·start.ended (account·start.clauses 𝓛 mem run)
-  account-start = equation 𝓤 _ _ _ (λ κs a g r e. refl)
+  pub account_start : DeterminesAnswer 𝓤 account·start.ended (account·start.clauses 𝓛 mem run)
+  account_start = equation 𝓤 _ _ _ (λ κs a g r e. refl)
 
   -- account::account::Account::next: r ≡ accountNext self (now part.entry)
-  pub account-next : DeterminesAnswer 𝓤 account·next.ended (account·next.clauses 𝓛 mem run)
-  account-next = equation 𝓤 _ _ _ (λ κs a g r e. refl)
+  pub account_next : DeterminesAnswer 𝓤 account·next.ended (account·next.clauses 𝓛 mem run)
+  account_next = equation 𝓤 _ _ _ (λ κs a g r e. refl)
 
   -- account::account::Account::unfinished: r ≡ unfinishedOf self
-  pub account-unfinished : DeterminesAnswer 𝓤 account·unfinished.ended (account·unfinished.clauses 𝓛 mem run)
-  account-unfinished = equation 𝓤 _ _ _ (λ κs a g r e. refl)
+  pub account_unfinished : DeterminesAnswer 𝓤 account·unfinished.ended (account·unfinished.clauses 𝓛 mem run)
+  account_unfinished = equation 𝓤 _ _ _ (λ κs a g r e. refl)
 
   -- account::again::Again::after: r ≡ afterData self write
-  pub again-after : DeterminesAnswer 𝓤 again·after.ended (again·after.clauses 𝓛 mem run)
-  again-after = equation 𝓤 _ _ _ (λ κs a g r e. refl)
+  pub again_after : DeterminesAnswer 𝓤 again·after.ended (again·after.clauses 𝓛 mem run)
+  again_after = equation 𝓤 _ _ _ (λ κs a g r e. refl)
 
   -- account::again::Again::is_quiet: r ≡ quietAt self.stage (numberOf answer) used
-  pub again-quiet : DeterminesAnswer 𝓤 again·quiet.ended (again·quiet.clauses 𝓛 mem run)
-  again-quiet = equation 𝓤 _ _ _ (λ κs a g r e. refl)
+  pub again_quiet : DeterminesAnswer 𝓤 again·quiet.ended (again·quiet.clauses 𝓛 mem run)
+  again_quiet = equation 𝓤 _ _ _ (λ κs a g r e. refl)
 
   -- account::placed::Placed::read: r ≡ placedRead before answer first (now bytes.entry)
-  pub placed-read : DeterminesAnswer 𝓤 placed·read.ended (placed·read.clauses 𝓛 mem run)
-  placed-read = equation 𝓤 _ _ _ (λ κs a g r e. refl)
+  pub placed_read : DeterminesAnswer 𝓤 placed·read.ended (placed·read.clauses 𝓛 mem run)
+  placed_read = equation 𝓤 _ _ _ (λ κs a g r e. refl)
 
   -- account::placed::Placed::line: r ≡ lineOf self
-  pub placed-line : DeterminesAnswer 𝓤 placed·line.ended (placed·line.clauses 𝓛 mem run)
-  placed-line = equation 𝓤 _ _ _ (λ κs a g r e. refl)
+  pub placed_line : DeterminesAnswer 𝓤 placed·line.ended (placed·line.clauses 𝓛 mem run)
+  placed_line = equation 𝓤 _ _ _ (λ κs a g r e. refl)
 
   -- account::placed::Placed::kept: r ≡ keptOf self
-  pub placed-kept : DeterminesAnswer 𝓤 placed·kept.ended (placed·kept.clauses 𝓛 mem run)
-  placed-kept = equation 𝓤 _ _ _ (λ κs a g r e. refl)
+  pub placed_kept : DeterminesAnswer 𝓤 placed·kept.ended (placed·kept.clauses 𝓛 mem run)
+  placed_kept = equation 𝓤 _ _ _ (λ κs a g r e. refl)

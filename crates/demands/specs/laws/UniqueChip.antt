@@ -37,8 +37,8 @@ use Rattle.chip.specs.contracts.registers.Registers.here as registers·here
 use Rattle.chip.specs.contracts.registers.Registers.read as registers·read
 use Rattle.chip.specs.contracts.registers.Registers.write as registers·write
 use Rattle.chip.specs.contracts.address.Address.fits as address·fits
-use Rattle.chip.specs.contracts.sheet.blank_past as sheet·blank-past
-use Rattle.chip.specs.contracts.sheet.pattern_fits as sheet·pattern-fits
+use Rattle.chip.specs.contracts.sheet.blank_past as sheet·blank_past_lem
+use Rattle.chip.specs.contracts.sheet.pattern_fits as sheet·pattern_fits_lem
 use Rattle.chip.specs.contracts.sheet.Sheet.fresh as sheet·fresh
 use Rattle.chip.specs.contracts.sheet.Sheet.sound as sheet·sound
 use Rattle.demands.specs.Unique.{Determines, DeterminesAnswer, answer, equation}
@@ -67,121 +67,121 @@ module _ {M : Type 1} {𝓤 : Ura M} (𝓛 : Logic 𝓤) (mem : Memory → SProp
   places = answer 𝓤 _ _ _ (λ κs a g r e. refl) (λ κs a r s e f p q. p.is ∙ sym q.is)
 
   -- chip::address::DisplayAddress::moved: r ≡ movedDisplay chip up self
-  pub display-address-moved : DeterminesAnswer 𝓤 display-address·moved.ended (display-address·moved.clauses 𝓛 mem run)
-  display-address-moved = equation 𝓤 _ _ _ (λ κs a g r e. refl)
+  pub display_address_moved : DeterminesAnswer 𝓤 display-address·moved.ended (display-address·moved.clauses 𝓛 mem run)
+  display_address_moved = equation 𝓤 _ _ _ (λ κs a g r e. refl)
 
   -- chip::address::DisplayAddress::read: r ≡ readDisplay chip self (now display.entry)
-  pub display-address-read : DeterminesAnswer 𝓤 display-address·read.ended (display-address·read.clauses 𝓛 mem run)
-  display-address-read = equation 𝓤 _ _ _ (λ κs a g r e. refl)
+  pub display_address_read : DeterminesAnswer 𝓤 display-address·read.ended (display-address·read.clauses 𝓛 mem run)
+  display_address_read = equation 𝓤 _ _ _ (λ κs a g r e. refl)
 
   -- chip::address::DisplayAddress::write: now display.exit ≡ writtenDisplay chip self byte (now display.entry)
-  pub display-address-write : Determines 𝓤 display-address·write.ended (display-address·write.clauses 𝓛 mem run) (λ κs e. e.1.1.1.0.now)
-  display-address-write = record { Says = _; stated = λ κs a g r e. refl; one = λ κs a r s e f p q. (refl, p ∙ sym q) }
+  pub display_address_write : Determines 𝓤 display-address·write.ended (display-address·write.clauses 𝓛 mem run) (λ κs e. e.1.1.1.0.now)
+  display_address_write = record { Says = _; stated = λ κs a g r e. refl; one = λ κs a r s e f p q. (refl, p ∙ sym q) }
 
   -- chip::address::PatternAddress::moved: r ≡ movedPattern up self
-  pub pattern-address-moved : DeterminesAnswer 𝓤 pattern-address·moved.ended (pattern-address·moved.clauses 𝓛 mem run)
-  pattern-address-moved = equation 𝓤 _ _ _ (λ κs a g r e. refl)
+  pub pattern_address_moved : DeterminesAnswer 𝓤 pattern-address·moved.ended (pattern-address·moved.clauses 𝓛 mem run)
+  pattern_address_moved = equation 𝓤 _ _ _ (λ κs a g r e. refl)
 
   -- chip::address::PatternAddress::read: r ≡ readPattern self (now pattern.entry)
-  pub pattern-address-read : DeterminesAnswer 𝓤 pattern-address·read.ended (pattern-address·read.clauses 𝓛 mem run)
-  pattern-address-read = equation 𝓤 _ _ _ (λ κs a g r e. refl)
+  pub pattern_address_read : DeterminesAnswer 𝓤 pattern-address·read.ended (pattern-address·read.clauses 𝓛 mem run)
+  pattern_address_read = equation 𝓤 _ _ _ (λ κs a g r e. refl)
 
   -- chip::address::PatternAddress::write: now pattern.exit ≡ writtenPattern self byte (now pattern.entry)
-  pub pattern-address-write : Determines 𝓤 pattern-address·write.ended (pattern-address·write.clauses 𝓛 mem run) (λ κs e. e.1.1.0.now)
-  pattern-address-write = record { Says = _; stated = λ κs a g r e. refl; one = λ κs a r s e f p q. (refl, p ∙ sym q) }
+  pub pattern_address_write : Determines 𝓤 pattern-address·write.ended (pattern-address·write.clauses 𝓛 mem run) (λ κs e. e.1.1.0.now)
+  pattern_address_write = record { Says = _; stated = λ κs a g r e. refl; one = λ κs a r s e f p q. (refl, p ∙ sym q) }
 
   -- chip::address::Address::number: r ≡ addressNumber chip self
-  pub address-number : DeterminesAnswer 𝓤 address·number.ended (address·number.clauses 𝓛 mem run)
-  address-number = equation 𝓤 _ _ _ (λ κs a g r e. refl)
+  pub address_number : DeterminesAnswer 𝓤 address·number.ended (address·number.clauses 𝓛 mem run)
+  address_number = equation 𝓤 _ _ _ (λ κs a g r e. refl)
 
   -- chip::address::Address::in_display: r ≡ inDisplay self
-  pub address-in-display : DeterminesAnswer 𝓤 address·in-display.ended (address·in-display.clauses 𝓛 mem run)
-  address-in-display = equation 𝓤 _ _ _ (λ κs a g r e. refl)
+  pub address_in_display : DeterminesAnswer 𝓤 address·in-display.ended (address·in-display.clauses 𝓛 mem run)
+  address_in_display = equation 𝓤 _ _ _ (λ κs a g r e. refl)
 
   -- chip::address::Address::moved: r ≡ movedAddress chip up self
-  pub address-moved : DeterminesAnswer 𝓤 address·moved.ended (address·moved.clauses 𝓛 mem run)
-  address-moved = equation 𝓤 _ _ _ (λ κs a g r e. refl)
+  pub address_moved : DeterminesAnswer 𝓤 address·moved.ended (address·moved.clauses 𝓛 mem run)
+  address_moved = equation 𝓤 _ _ _ (λ κs a g r e. refl)
 
   -- chip::instruction::decode: r ≡ decoded chip code
   pub decode : DeterminesAnswer 𝓤 instruction·decode.ended (instruction·decode.clauses 𝓛 mem run)
   decode = equation 𝓤 _ _ _ (λ κs a g r e. refl)
 
   -- chip::registers::Registers::fresh: Starts (freshSheet chip) r (now display.exit) (now pattern.exit)
-  pub registers-fresh : Determines 𝓤 registers·fresh.ended (registers·fresh.clauses 𝓛 mem run) {L = List ℕ × List ℕ} (λ κs e. (e.1.0.now, e.1.1.0.now))
-  registers-fresh = record { Says = _; stated = λ κs a g r e. refl; one = λ κs a r s e f p q. (registers_of (p ∙ sym q), memories_of (p ∙ sym q)) }
+  pub registers_fresh : Determines 𝓤 registers·fresh.ended (registers·fresh.clauses 𝓛 mem run) {L = List ℕ × List ℕ} (λ κs e. (e.1.0.now, e.1.1.0.now))
+  registers_fresh = record { Says = _; stated = λ κs a g r e. refl; one = λ κs a r s e f p q. (registers_of (p ∙ sym q), memories_of (p ∙ sym q)) }
 
   -- chip::registers::Registers::clear: StepsDisplay cleared self (now display.entry) r (now display.exit)
-  pub registers-clear : Determines 𝓤 registers·clear.ended (registers·clear.clauses 𝓛 mem run) (λ κs e. e.1.0.now)
-  registers-clear = record { Says = _; stated = λ κs a g r e. refl; one = λ κs a r s e f p q. (registers_of (p [] ∙ sym (q [])), display_of (p [] ∙ sym (q []))) }
+  pub registers_clear : Determines 𝓤 registers·clear.ended (registers·clear.clauses 𝓛 mem run) (λ κs e. e.1.0.now)
+  registers_clear = record { Says = _; stated = λ κs a g r e. refl; one = λ κs a r s e f p q. (registers_of (p [] ∙ sym (q [])), display_of (p [] ∙ sym (q []))) }
 
   -- chip::registers::Registers::home: Steps homed self r
-  pub registers-home : DeterminesAnswer 𝓤 registers·home.ended (registers·home.clauses 𝓛 mem run)
-  registers-home = answer 𝓤 _ _ _ (λ κs a g r e. refl) (λ κs a r s e f p q. registers_of (p [] [] ∙ sym (q [] [])))
+  pub registers_home : DeterminesAnswer 𝓤 registers·home.ended (registers·home.clauses 𝓛 mem run)
+  registers_home = answer 𝓤 _ _ _ (λ κs a g r e. refl) (λ κs a r s e f p q. registers_of (p [] [] ∙ sym (q [] [])))
 
   -- chip::registers::Registers::entry_mode: Steps (entered up follow) self r
-  pub registers-entry-mode : DeterminesAnswer 𝓤 registers·entry-mode.ended (registers·entry-mode.clauses 𝓛 mem run)
-  registers-entry-mode = answer 𝓤 _ _ _ (λ κs a g r e. refl) (λ κs a r s e f p q. registers_of (p [] [] ∙ sym (q [] [])))
+  pub registers_entry_mode : DeterminesAnswer 𝓤 registers·entry-mode.ended (registers·entry-mode.clauses 𝓛 mem run)
+  registers_entry_mode = answer 𝓤 _ _ _ (λ κs a g r e. refl) (λ κs a r s e f p q. registers_of (p [] [] ∙ sym (q [] [])))
 
   -- chip::registers::Registers::screen: Steps (screenSet on cursor blink) self r
-  pub registers-screen : DeterminesAnswer 𝓤 registers·screen.ended (registers·screen.clauses 𝓛 mem run)
-  registers-screen = answer 𝓤 _ _ _ (λ κs a g r e. refl) (λ κs a r s e f p q. registers_of (p [] [] ∙ sym (q [] [])))
+  pub registers_screen : DeterminesAnswer 𝓤 registers·screen.ended (registers·screen.clauses 𝓛 mem run)
+  registers_screen = answer 𝓤 _ _ _ (λ κs a g r e. refl) (λ κs a r s e f p q. registers_of (p [] [] ∙ sym (q [] [])))
 
   -- chip::registers::Registers::step: Steps (stepped up) self r
-  pub registers-step : DeterminesAnswer 𝓤 registers·step.ended (registers·step.clauses 𝓛 mem run)
-  registers-step = answer 𝓤 _ _ _ (λ κs a g r e. refl) (λ κs a r s e f p q. registers_of (p [] [] ∙ sym (q [] [])))
+  pub registers_step : DeterminesAnswer 𝓤 registers·step.ended (registers·step.clauses 𝓛 mem run)
+  registers_step = answer 𝓤 _ _ _ (λ κs a g r e. refl) (λ κs a r s e f p q. registers_of (p [] [] ∙ sym (q [] [])))
 
   -- chip::registers::Registers::shift_by_one: Steps (shifted left) self r
-  pub registers-shift-by-one : DeterminesAnswer 𝓤 registers·shift-by-one.ended (registers·shift-by-one.clauses 𝓛 mem run)
-  registers-shift-by-one = answer 𝓤 _ _ _ (λ κs a g r e. refl) (λ κs a r s e f p q. registers_of (p [] [] ∙ sym (q [] [])))
+  pub registers_shift_by_one : DeterminesAnswer 𝓤 registers·shift-by-one.ended (registers·shift-by-one.clauses 𝓛 mem run)
+  registers_shift_by_one = answer 𝓤 _ _ _ (λ κs a g r e. refl) (λ κs a r s e f p q. registers_of (p [] [] ∙ sym (q [] [])))
 
   -- chip::registers::Registers::function_set: Steps (functionSet eight bits) self r
-  pub registers-function-set : DeterminesAnswer 𝓤 registers·function-set.ended (registers·function-set.clauses 𝓛 mem run)
-  registers-function-set = answer 𝓤 _ _ _ (λ κs a g r e. refl) (λ κs a r s e f p q. registers_of (p [] [] ∙ sym (q [] [])))
+  pub registers_function_set : DeterminesAnswer 𝓤 registers·function-set.ended (registers·function-set.clauses 𝓛 mem run)
+  registers_function_set = answer 𝓤 _ _ _ (λ κs a g r e. refl) (λ κs a r s e f p q. registers_of (p [] [] ∙ sym (q [] [])))
 
   -- chip::registers::Registers::set: Steps (addressSet address) self r
-  pub registers-set : DeterminesAnswer 𝓤 registers·set.ended (registers·set.clauses 𝓛 mem run)
-  registers-set = answer 𝓤 _ _ _ (λ κs a g r e. refl) (λ κs a r s e f p q. registers_of (p [] [] ∙ sym (q [] [])))
+  pub registers_set : DeterminesAnswer 𝓤 registers·set.ended (registers·set.clauses 𝓛 mem run)
+  registers_set = answer 𝓤 _ _ _ (λ κs a g r e. refl) (λ κs a r s e f p q. registers_of (p [] [] ∙ sym (q [] [])))
 
   -- chip::registers::Registers::next_good: Steps (nextGood good) self r
-  pub registers-next-good : DeterminesAnswer 𝓤 registers·next-good.ended (registers·next-good.clauses 𝓛 mem run)
-  registers-next-good = answer 𝓤 _ _ _ (λ κs a g r e. refl) (λ κs a r s e f p q. registers_of (p [] [] ∙ sym (q [] [])))
+  pub registers_next_good : DeterminesAnswer 𝓤 registers·next-good.ended (registers·next-good.clauses 𝓛 mem run)
+  registers_next_good = answer 𝓤 _ _ _ (λ κs a g r e. refl) (λ κs a r s e f p q. registers_of (p [] [] ∙ sym (q [] [])))
 
   -- chip::registers::Registers::act: StepsDisplay (acted i) self (now display.entry) r (now display.exit)
-  pub registers-act : Determines 𝓤 registers·act.ended (registers·act.clauses 𝓛 mem run) (λ κs e. e.1.1.0.now)
-  registers-act = record { Says = _; stated = λ κs a g r e. refl; one = λ κs a r s e f p q. (registers_of (p [] ∙ sym (q [])), display_of (p [] ∙ sym (q []))) }
+  pub registers_act : Determines 𝓤 registers·act.ended (registers·act.clauses 𝓛 mem run) (λ κs e. e.1.1.0.now)
+  registers_act = record { Says = _; stated = λ κs a g r e. refl; one = λ κs a r s e f p q. (registers_of (p [] ∙ sym (q [])), display_of (p [] ∙ sym (q []))) }
 
   -- chip::registers::Registers::obey: StepsDisplay (obeyed code) self (now display.entry) r (now display.exit)
-  pub registers-obey : Determines 𝓤 registers·obey.ended (registers·obey.clauses 𝓛 mem run) (λ κs e. e.1.1.0.now)
-  registers-obey = record { Says = _; stated = λ κs a g r e. refl; one = λ κs a r s e f p q. (registers_of (p [] ∙ sym (q [])), display_of (p [] ∙ sym (q []))) }
+  pub registers_obey : Determines 𝓤 registers·obey.ended (registers·obey.clauses 𝓛 mem run) (λ κs e. e.1.1.0.now)
+  registers_obey = record { Says = _; stated = λ κs a g r e. refl; one = λ κs a r s e f p q. (registers_of (p [] ∙ sym (q [])), display_of (p [] ∙ sym (q []))) }
 
   -- chip::registers::Registers::here: r ≡ readHere self (now display.entry) (now pattern.entry)
-  pub registers-here : DeterminesAnswer 𝓤 registers·here.ended (registers·here.clauses 𝓛 mem run)
-  registers-here = equation 𝓤 _ _ _ (λ κs a g r e. refl)
+  pub registers_here : DeterminesAnswer 𝓤 registers·here.ended (registers·here.clauses 𝓛 mem run)
+  registers_here = equation 𝓤 _ _ _ (λ κs a g r e. refl)
 
   -- chip::registers::Registers::read: Steps passed self r
-  pub registers-read : DeterminesAnswer 𝓤 registers·read.ended (registers·read.clauses 𝓛 mem run)
-  registers-read = answer 𝓤 _ _ _ (λ κs a g r e. refl) (λ κs a r s e f p q. registers_of (p [] [] ∙ sym (q [] [])))
+  pub registers_read : DeterminesAnswer 𝓤 registers·read.ended (registers·read.clauses 𝓛 mem run)
+  registers_read = answer 𝓤 _ _ _ (λ κs a g r e. refl) (λ κs a r s e f p q. registers_of (p [] [] ∙ sym (q [] [])))
 
   -- chip::registers::Registers::write: StepsBoth (written byte) self (now display.entry) (now pattern.entry) r (now display.exit) (now pattern.exit)
-  pub registers-write : Determines 𝓤 registers·write.ended (registers·write.clauses 𝓛 mem run) {L = List ℕ × List ℕ} (λ κs e. (e.1.1.0.now, e.1.1.1.0.now))
-  registers-write = record { Says = _; stated = λ κs a g r e. refl; one = λ κs a r s e f p q. (registers_of (p ∙ sym q), memories_of (p ∙ sym q)) }
+  pub registers_write : Determines 𝓤 registers·write.ended (registers·write.clauses 𝓛 mem run) {L = List ℕ × List ℕ} (λ κs e. (e.1.1.0.now, e.1.1.1.0.now))
+  registers_write = record { Says = _; stated = λ κs a g r e. refl; one = λ κs a r s e f p q. (registers_of (p ∙ sym q), memories_of (p ∙ sym q)) }
 
   -- chip::address::Address::fits: r ≡ addressFits chip self
-  pub address-fits : DeterminesAnswer 𝓤 address·fits.ended (address·fits.clauses 𝓛 mem run)
-  address-fits = equation 𝓤 _ _ _ (λ κs a g r e. refl)
+  pub address_fits : DeterminesAnswer 𝓤 address·fits.ended (address·fits.clauses 𝓛 mem run)
+  address_fits = equation 𝓤 _ _ _ (λ κs a g r e. refl)
 
   -- chip::sheet::blank_past: r ≡ blankPast chip display
-  pub blank-past : DeterminesAnswer 𝓤 sheet·blank-past.ended (sheet·blank-past.clauses 𝓛 mem run)
-  blank-past = equation 𝓤 _ _ _ (λ κs a g r e. refl)
+  pub blank_past_lem : DeterminesAnswer 𝓤 sheet·blank_past_lem.ended (sheet·blank_past_lem.clauses 𝓛 mem run)
+  blank_past_lem = equation 𝓤 _ _ _ (λ κs a g r e. refl)
 
   -- chip::sheet::pattern_fits: r ≡ patternFits pattern
-  pub pattern-fits : DeterminesAnswer 𝓤 sheet·pattern-fits.ended (sheet·pattern-fits.clauses 𝓛 mem run)
-  pattern-fits = equation 𝓤 _ _ _ (λ κs a g r e. refl)
+  pub pattern_fits_lem : DeterminesAnswer 𝓤 sheet·pattern_fits_lem.ended (sheet·pattern_fits_lem.clauses 𝓛 mem run)
+  pattern_fits_lem = equation 𝓤 _ _ _ (λ κs a g r e. refl)
 
   -- chip::sheet::Sheet::fresh: r ≡ freshSheet chip
-  pub sheet-fresh : DeterminesAnswer 𝓤 sheet·fresh.ended (sheet·fresh.clauses 𝓛 mem run)
-  sheet-fresh = equation 𝓤 _ _ _ (λ κs a g r e. refl)
+  pub sheet_fresh : DeterminesAnswer 𝓤 sheet·fresh.ended (sheet·fresh.clauses 𝓛 mem run)
+  sheet_fresh = equation 𝓤 _ _ _ (λ κs a g r e. refl)
 
   -- chip::sheet::Sheet::sound: r ≡ soundSheet self
-  pub sheet-sound : DeterminesAnswer 𝓤 sheet·sound.ended (sheet·sound.clauses 𝓛 mem run)
-  sheet-sound = equation 𝓤 _ _ _ (λ κs a g r e. refl)
+  pub sheet_sound : DeterminesAnswer 𝓤 sheet·sound.ended (sheet·sound.clauses 𝓛 mem run)
+  sheet_sound = equation 𝓤 _ _ _ (λ κs a g r e. refl)

@@ -7,8 +7,8 @@ use prog.Memory.{Memory}
 use prog.Routine.{Routine}
 use types.Logic.{Logic}
 use contract.Monad.{Fun}
-use Rattle.desk.specs.laws.ClockLaws.{clock_one, decimal_one, some-page, some_end, here-page, here_end}
-use Rattle.desk.specs.laws.PageLaws.{puts-page, puts-end}
+use Rattle.desk.specs.laws.ClockLaws.{clock_one, decimal_one, some_page, some_end, here_page, here_end}
+use Rattle.desk.specs.laws.PageLaws.{puts_page, puts_end}
 use Rattle.desk.specs.contracts.bytes.held as bytes·held
 use Rattle.desk.specs.contracts.chips.chip_of as chips·chip
 use Rattle.desk.specs.contracts.clock.put_clock as clock·clock
@@ -29,48 +29,48 @@ module _ {M : Type 1} {𝓤 : Ura M} (𝓛 : Logic 𝓤) (mem : Memory → SProp
   held = answer 𝓤 _ _ _ (λ κs a g r e. refl) (λ κs a r s e f p q. p.is ∙ sym q.is)
 
   -- desk::chips::chip_of: r ≡ chipNamed (now name.entry)
-  pub chip-of : DeterminesAnswer 𝓤 chips·chip.ended (chips·chip.clauses 𝓛 mem run)
-  chip-of = equation 𝓤 _ _ _ (λ κs a g r e. refl)
+  pub chip_of_lem : DeterminesAnswer 𝓤 chips·chip.ended (chips·chip.clauses 𝓛 mem run)
+  chip_of_lem = equation 𝓤 _ _ _ (λ κs a g r e. refl)
 
   -- desk::clock::put_clock: PutsSome (Clock time) (now page.entry) at (now page.exit) r
-  pub put-clock : Determines 𝓤 clock·clock.ended (clock·clock.clauses 𝓛 mem run) {L = List ℕ} (λ κs e. e.0.now)
-  put-clock =
+  pub put_clock_lem : Determines 𝓤 clock·clock.ended (clock·clock.clauses 𝓛 mem run) {L = List ℕ} (λ κs e. e.0.now)
+  put_clock_lem =
       record {
         Says = _;
         stated = λ κs a g r e. refl;
-        one = λ κs a r s e f p q. (some_end _ (clock_one _) _ _ _ _ _ _ p q, some-page _ (clock_one _) _ _ _ _ _ _ p q);
+        one = λ κs a r s e f p q. (some_end _ (clock_one _) _ _ _ _ _ _ p q, some_page _ (clock_one _) _ _ _ _ _ _ p q);
       }
 
   -- desk::clock::put_clock_here: PutsHere mostClock (Clock time) (now page.entry) at (now page.exit) r
-  pub put-clock-here : Determines 𝓤 clock·clock-here.ended (clock·clock-here.clauses 𝓛 mem run) {L = List ℕ} (λ κs e. e.0.now)
-  put-clock-here =
+  pub put_clock_here_lem : Determines 𝓤 clock·clock-here.ended (clock·clock-here.clauses 𝓛 mem run) {L = List ℕ} (λ κs e. e.0.now)
+  put_clock_here_lem =
       record {
         Says = _;
         stated = λ κs a g r e. refl;
-        one = λ κs a r s e f p q. (here_end _ _ (clock_one _) _ _ _ _ _ _ p q, here-page _ _ (clock_one _) _ _ _ _ _ _ p q);
+        one = λ κs a r s e f p q. (here_end _ _ (clock_one _) _ _ _ _ _ _ p q, here_page _ _ (clock_one _) _ _ _ _ _ _ p q);
       }
 
   -- desk::clock::put_number: PutsSome (Decimal n) (now page.entry) at (now page.exit) r
-  pub put-number : Determines 𝓤 clock·number.ended (clock·number.clauses 𝓛 mem run) {L = List ℕ} (λ κs e. e.0.now)
-  put-number =
+  pub put_number_lem : Determines 𝓤 clock·number.ended (clock·number.clauses 𝓛 mem run) {L = List ℕ} (λ κs e. e.0.now)
+  put_number_lem =
       record {
         Says = _;
         stated = λ κs a g r e. refl;
-        one = λ κs a r s e f p q. (some_end _ (decimal_one _) _ _ _ _ _ _ p q, some-page _ (decimal_one _) _ _ _ _ _ _ p q);
+        one = λ κs a r s e f p q. (some_end _ (decimal_one _) _ _ _ _ _ _ p q, some_page _ (decimal_one _) _ _ _ _ _ _ p q);
       }
 
   -- desk::clock::put_number_here: PutsHere mostDigits (Decimal n) (now page.entry) at (now page.exit) r
-  pub put-number-here : Determines 𝓤 clock·number-here.ended (clock·number-here.clauses 𝓛 mem run) {L = List ℕ} (λ κs e. e.0.now)
-  put-number-here =
+  pub put_number_here_lem : Determines 𝓤 clock·number-here.ended (clock·number-here.clauses 𝓛 mem run) {L = List ℕ} (λ κs e. e.0.now)
+  put_number_here_lem =
       record {
         Says = _;
         stated = λ κs a g r e. refl;
-        one = λ κs a r s e f p q. (here_end _ _ (decimal_one _) _ _ _ _ _ _ p q, here-page _ _ (decimal_one _) _ _ _ _ _ _ p q);
+        one = λ κs a r s e f p q. (here_end _ _ (decimal_one _) _ _ _ _ _ _ p q, here_page _ _ (decimal_one _) _ _ _ _ _ _ p q);
       }
 
   -- desk::input::Input::start: r ≡ unread
-  pub input-start : DeterminesAnswer 𝓤 input·start.ended (input·start.clauses 𝓛 mem run)
-  input-start = equation 𝓤 _ _ _ (λ κs a g r e. refl)
+  pub input_start : DeterminesAnswer 𝓤 input·start.ended (input·start.clauses 𝓛 mem run)
+  input_start = equation 𝓤 _ _ _ (λ κs a g r e. refl)
 
   -- desk::number::number_of: r ≡ decimalOf (now word.entry) most
   pub number_of : DeterminesAnswer 𝓤 number·of.ended (number·of.clauses 𝓛 mem run)
@@ -78,15 +78,15 @@ module _ {M : Type 1} {𝓤 : Ura M} (𝓛 : Logic 𝓤) (mem : Memory → SProp
 
   -- desk::page::put: Puts (now bytes.entry) (now page.entry) at (now page.exit) r
   pub put : Determines 𝓤 page·put.ended (page·put.clauses 𝓛 mem run) {L = List ℕ} (λ κs e. e.0.now)
-  put = record { Says = _; stated = λ κs a g r e. refl; one = λ κs a r s e f p q. (puts-end _ _ _ _ _ _ _ p q, puts-page _ _ _ _ _ _ _ p q) }
+  put = record { Says = _; stated = λ κs a g r e. refl; one = λ κs a r s e f p q. (puts_end _ _ _ _ _ _ _ p q, puts_page _ _ _ _ _ _ _ p q) }
 
   -- desk::page::put_here: PutsHere (length (now bytes.entry)) (λ s. s ≡ now bytes.entry) (now page.entry) at (now page.exit) r
-  pub put-here : Determines 𝓤 page·here.ended (page·here.clauses 𝓛 mem run) {L = List ℕ} (λ κs e. e.0.now)
-  put-here =
+  pub put_here_lem : Determines 𝓤 page·here.ended (page·here.clauses 𝓛 mem run) {L = List ℕ} (λ κs e. e.0.now)
+  put_here_lem =
       record {
         Says = _;
         stated = λ κs a g r e. refl;
-        one = λ κs a r s e f p q. (here_end _ _ (λ x y p q. p ∙ sym q) _ _ _ _ _ _ p q, here-page _ _ (λ x y p q. p ∙ sym q) _ _ _ _ _ _ p q);
+        one = λ κs a r s e f p q. (here_end _ _ (λ x y p q. p ∙ sym q) _ _ _ _ _ _ p q, here_page _ _ (λ x y p q. p ∙ sym q) _ _ _ _ _ _ p q);
       }
 
   -- desk::page::room_for: r ≡ placeFor size at
@@ -94,5 +94,5 @@ module _ {M : Type 1} {𝓤 : Ura M} (𝓛 : Logic 𝓤) (mem : Memory → SProp
   room_for = equation 𝓤 _ _ _ (λ κs a g r e. refl)
 
   -- desk::times::times_of: r ≡ timesOf (now reset.entry) (now long.entry) (now short.entry)
-  pub times-of : DeterminesAnswer 𝓤 times·times.ended (times·times.clauses 𝓛 mem run)
-  times-of = equation 𝓤 _ _ _ (λ κs a g r e. refl)
+  pub times_of_lem : DeterminesAnswer 𝓤 times·times.ended (times·times.clauses 𝓛 mem run)
+  times_of_lem = equation 𝓤 _ _ _ (λ κs a g r e. refl)

@@ -12,13 +12,13 @@ use Rattle.framing.specs.contracts.carry.Carry.empty as carry·empty
 use Rattle.framing.specs.contracts.carry.Carry.keep as carry·keep
 use Rattle.framing.specs.contracts.carry.Carry.frame as carry·frame
 use Rattle.framing.specs.contracts.carry.Carry.flaw as carry·flaw
-use Rattle.framing.specs.contracts.carry.Carry.wants_more as carry·wants-more
+use Rattle.framing.specs.contracts.carry.Carry.wants_more as carry·wants_more_lem
 use Rattle.framing.specs.contracts.carry.Carry.wanting as carry·wanting
 use Rattle.framing.specs.contracts.carry.Carry.fill as carry·fill
 use Rattle.framing.specs.contracts.frame.Frame.size as frame·size
 use Rattle.framing.specs.contracts.front.told as front·told
 use Rattle.framing.specs.contracts.front.whole as front·whole
-use Rattle.framing.specs.contracts.front.wants_more as front·wants-more
+use Rattle.framing.specs.contracts.front.wants_more as front·wants_more_lem
 use Rattle.framing.specs.contracts.front.frame as front·frame
 use Rattle.framing.specs.contracts.front.flaw as front·flaw
 use Rattle.framing.specs.contracts.records.records as records·records
@@ -30,36 +30,36 @@ module _ {M : Type 1} {𝓤 : Ura M} (𝓛 : Logic 𝓤) (mem : Memory → SProp
   carried = answer 𝓤 _ _ _ (λ κs a g r e. refl) (λ κs a r s e f p q. p.count ∙ ap length (p.is ∙ sym q.is) ∙ sym q.count)
 
   -- log::carry::Carry::empty: r ≡ carryOf []
-  pub carry-empty : DeterminesAnswer 𝓤 carry·empty.ended (carry·empty.clauses 𝓛 mem run)
-  carry-empty = equation 𝓤 _ _ _ (λ κs a g r e. refl)
+  pub carry_empty : DeterminesAnswer 𝓤 carry·empty.ended (carry·empty.clauses 𝓛 mem run)
+  carry_empty = equation 𝓤 _ _ _ (λ κs a g r e. refl)
 
   -- log::carry::Carry::keep: r ≡ carryOf (take room (now part.entry))
-  pub carry-keep : DeterminesAnswer 𝓤 carry·keep.ended (carry·keep.clauses 𝓛 mem run)
-  carry-keep = equation 𝓤 _ _ _ (λ κs a g r e. refl)
+  pub carry_keep : DeterminesAnswer 𝓤 carry·keep.ended (carry·keep.clauses 𝓛 mem run)
+  carry_keep = equation 𝓤 _ _ _ (λ κs a g r e. refl)
 
   -- log::carry::Carry::frame: r ≡ frameOf (carriedOf self)
-  pub carry-frame : DeterminesAnswer 𝓤 carry·frame.ended (carry·frame.clauses 𝓛 mem run)
-  carry-frame = equation 𝓤 _ _ _ (λ κs a g r e. refl)
+  pub carry_frame : DeterminesAnswer 𝓤 carry·frame.ended (carry·frame.clauses 𝓛 mem run)
+  carry_frame = equation 𝓤 _ _ _ (λ κs a g r e. refl)
 
   -- log::carry::Carry::flaw: r ≡ flawOf (carriedOf self)
-  pub carry-flaw : DeterminesAnswer 𝓤 carry·flaw.ended (carry·flaw.clauses 𝓛 mem run)
-  carry-flaw = equation 𝓤 _ _ _ (λ κs a g r e. refl)
+  pub carry_flaw : DeterminesAnswer 𝓤 carry·flaw.ended (carry·flaw.clauses 𝓛 mem run)
+  carry_flaw = equation 𝓤 _ _ _ (λ κs a g r e. refl)
 
   -- log::carry::Carry::wants_more: r ≡ wantsMore (carriedOf self)
-  pub carry-wants-more : DeterminesAnswer 𝓤 carry·wants-more.ended (carry·wants-more.clauses 𝓛 mem run)
-  carry-wants-more = equation 𝓤 _ _ _ (λ κs a g r e. refl)
+  pub carry_wants_more : DeterminesAnswer 𝓤 carry·wants_more_lem.ended (carry·wants_more_lem.clauses 𝓛 mem run)
+  carry_wants_more = equation 𝓤 _ _ _ (λ κs a g r e. refl)
 
   -- log::carry::Carry::wanting: r ≡ carryOf (wantingOf (carriedOf self))
-  pub carry-wanting : DeterminesAnswer 𝓤 carry·wanting.ended (carry·wanting.clauses 𝓛 mem run)
-  carry-wanting = equation 𝓤 _ _ _ (λ κs a g r e. refl)
+  pub carry_wanting : DeterminesAnswer 𝓤 carry·wanting.ended (carry·wanting.clauses 𝓛 mem run)
+  carry_wanting = equation 𝓤 _ _ _ (λ κs a g r e. refl)
 
   -- log::carry::Carry::fill: r ≡ filledOf (carriedOf self) (now part.entry)
-  pub carry-fill : DeterminesAnswer 𝓤 carry·fill.ended (carry·fill.clauses 𝓛 mem run)
-  carry-fill = equation 𝓤 _ _ _ (λ κs a g r e. refl)
+  pub carry_fill : DeterminesAnswer 𝓤 carry·fill.ended (carry·fill.clauses 𝓛 mem run)
+  carry_fill = equation 𝓤 _ _ _ (λ κs a g r e. refl)
 
   -- log::frame::Frame::size: r ≡ sizeOf self
-  pub frame-size : DeterminesAnswer 𝓤 frame·size.ended (frame·size.clauses 𝓛 mem run)
-  frame-size = equation 𝓤 _ _ _ (λ κs a g r e. refl)
+  pub frame_size_lem : DeterminesAnswer 𝓤 frame·size.ended (frame·size.clauses 𝓛 mem run)
+  frame_size_lem = equation 𝓤 _ _ _ (λ κs a g r e. refl)
 
   -- log::front::told: r ≡ toldSize (now log.entry)
   pub told : DeterminesAnswer 𝓤 front·told.ended (front·told.clauses 𝓛 mem run)
@@ -70,8 +70,8 @@ module _ {M : Type 1} {𝓤 : Ura M} (𝓛 : Logic 𝓤) (mem : Memory → SProp
   whole = equation 𝓤 _ _ _ (λ κs a g r e. refl)
 
   -- log::front::wants_more: r ≡ wantsMore (now log.entry)
-  pub wants-more : DeterminesAnswer 𝓤 front·wants-more.ended (front·wants-more.clauses 𝓛 mem run)
-  wants-more = equation 𝓤 _ _ _ (λ κs a g r e. refl)
+  pub wants_more_lem : DeterminesAnswer 𝓤 front·wants_more_lem.ended (front·wants_more_lem.clauses 𝓛 mem run)
+  wants_more_lem = equation 𝓤 _ _ _ (λ κs a g r e. refl)
 
   -- log::front::frame: r ≡ frameOf (now log.entry)
   pub frame : DeterminesAnswer 𝓤 front·frame.ended (front·frame.clauses 𝓛 mem run)

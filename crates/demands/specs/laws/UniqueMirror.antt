@@ -45,56 +45,56 @@ module _ {M : Type 1} {𝓤 : Ura M} (𝓛 : Logic 𝓤) (mem : Memory → SProp
   answer_number = equation 𝓤 _ _ _ (λ κs a g r e. refl)
 
   -- mirror::answer::Answer::clocked: r ≡ clocked (numberOf self)
-  pub answer-clocked : DeterminesAnswer 𝓤 answer·clocked.ended (answer·clocked.clauses 𝓛 mem run)
-  answer-clocked = equation 𝓤 _ _ _ (λ κs a g r e. refl)
+  pub answer_clocked : DeterminesAnswer 𝓤 answer·clocked.ended (answer·clocked.clauses 𝓛 mem run)
+  answer_clocked = equation 𝓤 _ _ _ (λ κs a g r e. refl)
 
   -- mirror::answer::Answer::place: r ≡ placeOf (numberOf self)
-  pub answer-place : DeterminesAnswer 𝓤 answer·place.ended (answer·place.clauses 𝓛 mem run)
-  answer-place = equation 𝓤 _ _ _ (λ κs a g r e. refl)
+  pub answer_place : DeterminesAnswer 𝓤 answer·place.ended (answer·place.clauses 𝓛 mem run)
+  answer_place = equation 𝓤 _ _ _ (λ κs a g r e. refl)
 
   -- mirror::half::Half::fits: r ≡ halfFits eight self
-  pub half-fits : DeterminesAnswer 𝓤 half·fits.ended (half·fits.clauses 𝓛 mem run)
-  half-fits = equation 𝓤 _ _ _ (λ κs a g r e. refl)
+  pub half_fits : DeterminesAnswer 𝓤 half·fits.ended (half·fits.clauses 𝓛 mem run)
+  half_fits = equation 𝓤 _ _ _ (λ κs a g r e. refl)
 
   -- mirror::panel::Panel::fresh: r ≡ freshPanel chip reset long short
-  pub panel-fresh : DeterminesAnswer 𝓤 panel·fresh.ended (panel·fresh.clauses 𝓛 mem run)
-  panel-fresh = equation 𝓤 _ _ _ (λ κs a g r e. refl)
+  pub panel_fresh : DeterminesAnswer 𝓤 panel·fresh.ended (panel·fresh.clauses 𝓛 mem run)
+  panel_fresh = equation 𝓤 _ _ _ (λ κs a g r e. refl)
 
   -- mirror::panel::Panel::sound: r ≡ soundPanel self
-  pub panel-sound : DeterminesAnswer 𝓤 panel·sound.ended (panel·sound.clauses 𝓛 mem run)
-  panel-sound = equation 𝓤 _ _ _ (λ κs a g r e. refl)
+  pub panel_sound : DeterminesAnswer 𝓤 panel·sound.ended (panel·sound.clauses 𝓛 mem run)
+  panel_sound = equation 𝓤 _ _ _ (λ κs a g r e. refl)
 
   -- mirror::panel::Panel::record: Records self (now log.entry) r
-  pub panel-record : DeterminesAnswer 𝓤 panel·record.ended (panel·record.clauses 𝓛 mem run)
-  panel-record = answer 𝓤 _ _ _ (λ κs a g r e. refl) (λ κs a r s e f p q. p.is ∙ sym q.is)
+  pub panel_record : DeterminesAnswer 𝓤 panel·record.ended (panel·record.clauses 𝓛 mem run)
+  panel_record = answer 𝓤 _ _ _ (λ κs a g r e. refl) (λ κs a r s e f p q. p.is ∙ sym q.is)
 
   -- mirror::panel::Panel::written: Tells self r
-  pub panel-written : DeterminesAnswer 𝓤 the-written-panel.ended (the-written-panel.clauses 𝓛 mem run)
-  panel-written = answer 𝓤 _ _ _ (λ κs a g r e. refl) (λ κs a r s e f p q. p.told ∙ sym q.told)
+  pub panel_written : DeterminesAnswer 𝓤 the-written-panel.ended (the-written-panel.clauses 𝓛 mem run)
+  panel_written = answer 𝓤 _ _ _ (λ κs a g r e. refl) (λ κs a r s e f p q. p.told ∙ sym q.told)
 
   -- mirror::written::PlacesWritten::refusal: r ≡ writtenRefusal self
-  pub placesWritten-refusal : DeterminesAnswer 𝓤 placesWritten·refusal.ended (placesWritten·refusal.clauses 𝓛 mem run)
-  placesWritten-refusal = equation 𝓤 _ _ _ (λ κs a g r e. refl)
+  pub places_written_refusal : DeterminesAnswer 𝓤 placesWritten·refusal.ended (placesWritten·refusal.clauses 𝓛 mem run)
+  places_written_refusal = equation 𝓤 _ _ _ (λ κs a g r e. refl)
 
   -- mirror::stream::Stream::start: r ≡ startOf panel
-  pub stream-start : DeterminesAnswer 𝓤 stream·start.ended (stream·start.clauses 𝓛 mem run)
-  stream-start = equation 𝓤 _ _ _ (λ κs a g r e. refl)
+  pub stream_start : DeterminesAnswer 𝓤 stream·start.ended (stream·start.clauses 𝓛 mem run)
+  stream_start = equation 𝓤 _ _ _ (λ κs a g r e. refl)
 
   -- mirror::stream::Stream::feed: r ≡ feedOf self (now part.entry)
-  pub stream-feed : DeterminesAnswer 𝓤 stream·feed.ended (stream·feed.clauses 𝓛 mem run)
-  stream-feed = equation 𝓤 _ _ _ (λ κs a g r e. refl)
+  pub stream_feed : DeterminesAnswer 𝓤 stream·feed.ended (stream·feed.clauses 𝓛 mem run)
+  stream_feed = equation 𝓤 _ _ _ (λ κs a g r e. refl)
 
   -- mirror::stream::Stream::next: Replies self (now part.entry) r
-  pub stream-next : DeterminesAnswer 𝓤 stream·next.ended (stream·next.clauses 𝓛 mem run)
-  stream-next = answer 𝓤 _ _ _ (λ κs a g r e. refl) (λ κs a r s e f p q. p.is ∙ sym q.is)
+  pub stream_next : DeterminesAnswer 𝓤 stream·next.ended (stream·next.clauses 𝓛 mem run)
+  stream_next = answer 𝓤 _ _ _ (λ κs a g r e. refl) (λ κs a r s e f p q. p.is ∙ sym q.is)
 
   -- mirror::stream::Stream::end: r ≡ endOf self
   pub stream_end : DeterminesAnswer 𝓤 stream·end.ended (stream·end.clauses 𝓛 mem run)
   stream_end = equation 𝓤 _ _ _ (λ κs a g r e. refl)
 
   -- mirror::panel::Panel::run: Runs self (now log.entry) r
-  pub panel-run : DeterminesAnswer 𝓤 panel·run.ended (panel·run.clauses 𝓛 mem run)
-  panel-run = answer 𝓤 _ _ _ (λ κs a g r e. refl) (λ κs a r s e f p q. p.is ∙ sym q.is)
+  pub panel_run : DeterminesAnswer 𝓤 panel·run.ended (panel·run.clauses 𝓛 mem run)
+  panel_run = answer 𝓤 _ _ _ (λ κs a g r e. refl) (λ κs a r s e f p q. p.is ∙ sym q.is)
 
   -- mirror::count::raise: r ≡ raised n
   pub raise : DeterminesAnswer 𝓤 count·raise.ended (count·raise.clauses 𝓛 mem run)
@@ -105,57 +105,57 @@ module _ {M : Type 1} {𝓤 : Ura M} (𝓛 : Logic 𝓤) (mem : Memory → SProp
   tally = record { Says = _; stated = λ κs a g r e. refl; one = λ κs a r s e f p q. (refl, p ∙ sym q) }
 
   -- mirror::stream::Reply::refusal: r ≡ endNumber self
-  pub reply-refusal : DeterminesAnswer 𝓤 reply·refusal.ended (reply·refusal.clauses 𝓛 mem run)
-  reply-refusal = equation 𝓤 _ _ _ (λ κs a g r e. refl)
+  pub reply_refusal : DeterminesAnswer 𝓤 reply·refusal.ended (reply·refusal.clauses 𝓛 mem run)
+  reply_refusal = equation 𝓤 _ _ _ (λ κs a g r e. refl)
 
   -- mirror::stream::Run::refusal: r ≡ runNumber self
-  pub run-refusal : DeterminesAnswer 𝓤 run·refusal.ended (run·refusal.clauses 𝓛 mem run)
-  run-refusal = equation 𝓤 _ _ _ (λ κs a g r e. refl)
+  pub run_refusal : DeterminesAnswer 𝓤 run·refusal.ended (run·refusal.clauses 𝓛 mem run)
+  run_refusal = equation 𝓤 _ _ _ (λ κs a g r e. refl)
 
   -- mirror::stream::Stream::panel: r ≡ panelIn self
-  pub stream-panel : DeterminesAnswer 𝓤 stream·panel.ended (stream·panel.clauses 𝓛 mem run)
-  stream-panel = equation 𝓤 _ _ _ (λ κs a g r e. refl)
+  pub stream_panel : DeterminesAnswer 𝓤 stream·panel.ended (stream·panel.clauses 𝓛 mem run)
+  stream_panel = equation 𝓤 _ _ _ (λ κs a g r e. refl)
 
   -- mirror::stream::Stream::number: r ≡ numberIn self
-  pub stream-number : DeterminesAnswer 𝓤 stream·number.ended (stream·number.clauses 𝓛 mem run)
-  stream-number = equation 𝓤 _ _ _ (λ κs a g r e. refl)
+  pub stream_number : DeterminesAnswer 𝓤 stream·number.ended (stream·number.clauses 𝓛 mem run)
+  stream_number = equation 𝓤 _ _ _ (λ κs a g r e. refl)
 
   -- mirror::stream::Stream::front: r ≡ frontOf self (now part.entry)
-  pub stream-front : DeterminesAnswer 𝓤 stream·front.ended (stream·front.clauses 𝓛 mem run)
-  stream-front = equation 𝓤 _ _ _ (λ κs a g r e. refl)
+  pub stream_front : DeterminesAnswer 𝓤 stream·front.ended (stream·front.clauses 𝓛 mem run)
+  stream_front = equation 𝓤 _ _ _ (λ κs a g r e. refl)
 
   -- mirror::reading::Reading::answer: r ≡ answerRead self
-  pub reading-answer : DeterminesAnswer 𝓤 reading·answer.ended (reading·answer.clauses 𝓛 mem run)
-  reading-answer = equation 𝓤 _ _ _ (λ κs a g r e. refl)
+  pub reading_answer : DeterminesAnswer 𝓤 reading·answer.ended (reading·answer.clauses 𝓛 mem run)
+  reading_answer = equation 𝓤 _ _ _ (λ κs a g r e. refl)
 
   -- mirror::reading::Reading::eight: r ≡ eightRead self
-  pub reading-eight : DeterminesAnswer 𝓤 reading·eight.ended (reading·eight.clauses 𝓛 mem run)
-  reading-eight = equation 𝓤 _ _ _ (λ κs a g r e. refl)
+  pub reading_eight : DeterminesAnswer 𝓤 reading·eight.ended (reading·eight.clauses 𝓛 mem run)
+  reading_eight = equation 𝓤 _ _ _ (λ κs a g r e. refl)
 
   -- mirror::reading::Reading::half: r ≡ halfOf self.live
-  pub reading-half : DeterminesAnswer 𝓤 reading·half.ended (reading·half.clauses 𝓛 mem run)
-  reading-half = equation 𝓤 _ _ _ (λ κs a g r e. refl)
+  pub reading_half : DeterminesAnswer 𝓤 reading·half.ended (reading·half.clauses 𝓛 mem run)
+  reading_half = equation 𝓤 _ _ _ (λ κs a g r e. refl)
 
   -- mirror::reading::Reading::last: r ≡ lastRead self
-  pub reading-last : DeterminesAnswer 𝓤 reading·last.ended (reading·last.clauses 𝓛 mem run)
-  reading-last = equation 𝓤 _ _ _ (λ κs a g r e. refl)
+  pub reading_last : DeterminesAnswer 𝓤 reading·last.ended (reading·last.clauses 𝓛 mem run)
+  reading_last = equation 𝓤 _ _ _ (λ κs a g r e. refl)
 
   -- mirror::reading::Reading::number: r ≡ raised self.records
-  pub reading-number : DeterminesAnswer 𝓤 reading·number.ended (reading·number.clauses 𝓛 mem run)
-  reading-number = equation 𝓤 _ _ _ (λ κs a g r e. refl)
+  pub reading_number : DeterminesAnswer 𝓤 reading·number.ended (reading·number.clauses 𝓛 mem run)
+  reading_number = equation 𝓤 _ _ _ (λ κs a g r e. refl)
 
   -- mirror::reading::Reading::used: r ≡ usedRead self
-  pub reading-used : DeterminesAnswer 𝓤 reading·used.ended (reading·used.clauses 𝓛 mem run)
-  reading-used = equation 𝓤 _ _ _ (λ κs a g r e. refl)
+  pub reading_used : DeterminesAnswer 𝓤 reading·used.ended (reading·used.clauses 𝓛 mem run)
+  reading_used = equation 𝓤 _ _ _ (λ κs a g r e. refl)
 
   -- mirror::stream::Stream::ended: r ≡ endedOf self
-  pub stream-ended : DeterminesAnswer 𝓤 stream·ended.ended (stream·ended.clauses 𝓛 mem run)
-  stream-ended = equation 𝓤 _ _ _ (λ κs a g r e. refl)
+  pub stream_ended : DeterminesAnswer 𝓤 stream·ended.ended (stream·ended.clauses 𝓛 mem run)
+  stream_ended = equation 𝓤 _ _ _ (λ κs a g r e. refl)
 
   -- mirror::stream::Stream::gathered: r ≡ filledOf (waitingBytes self) (now part.entry)
-  pub stream-gathered : DeterminesAnswer 𝓤 stream·gathered.ended (stream·gathered.clauses 𝓛 mem run)
-  stream-gathered = equation 𝓤 _ _ _ (λ κs a g r e. refl)
+  pub stream_gathered : DeterminesAnswer 𝓤 stream·gathered.ended (stream·gathered.clauses 𝓛 mem run)
+  stream_gathered = equation 𝓤 _ _ _ (λ κs a g r e. refl)
 
   -- mirror::stream::Stream::read: r ≡ readOf self (totalsRead reading display pattern counts) (now tail.entry)
-  pub stream-read : DeterminesAnswer 𝓤 stream·read.ended (stream·read.clauses 𝓛 mem run)
-  stream-read = equation 𝓤 _ _ _ (λ κs a g r e. refl)
+  pub stream_read : DeterminesAnswer 𝓤 stream·read.ended (stream·read.clauses 𝓛 mem run)
+  stream_read = equation 𝓤 _ _ _ (λ κs a g r e. refl)

@@ -32,32 +32,32 @@ module _ {M : Type 1} {𝓤 : Ura M} (𝓛 : Logic 𝓤) (mem : Memory → SProp
   compare = answer 𝓤 _ _ _ (λ κs a g r e. refl) (λ κs a r s e f p q. p.told ∙ sym q.told)
 
   -- picture::compare::Compared::refusal: r ≡ compareRefusal self
-  pub compared-refusal : DeterminesAnswer 𝓤 compare·refusal.ended (compare·refusal.clauses 𝓛 mem run)
-  compared-refusal = equation 𝓤 _ _ _ (λ κs a g r e. refl)
+  pub compared_refusal : DeterminesAnswer 𝓤 compare·refusal.ended (compare·refusal.clauses 𝓛 mem run)
+  compared_refusal = equation 𝓤 _ _ _ (λ κs a g r e. refl)
 
   -- picture::cursor::line: r ≡ lineOf chip address
-  pub cursor-line : DeterminesAnswer 𝓤 cursor·line.ended (cursor·line.clauses 𝓛 mem run)
-  cursor-line = equation 𝓤 _ _ _ (λ κs a g r e. refl)
+  pub cursor_line : DeterminesAnswer 𝓤 cursor·line.ended (cursor·line.clauses 𝓛 mem run)
+  cursor_line = equation 𝓤 _ _ _ (λ κs a g r e. refl)
 
   -- picture::cursor::position: r ≡ positionOf chip address shift
   pub position : DeterminesAnswer 𝓤 cursor·position.ended (cursor·position.clauses 𝓛 mem run)
   position = equation 𝓤 _ _ _ (λ κs a g r e. refl)
 
   -- picture::cursor::shown: r ≡ cursorOf registers
-  pub cursor-shown : DeterminesAnswer 𝓤 cursor·shown.ended (cursor·shown.clauses 𝓛 mem run)
-  cursor-shown = equation 𝓤 _ _ _ (λ κs a g r e. refl)
+  pub cursor_shown : DeterminesAnswer 𝓤 cursor·shown.ended (cursor·shown.clauses 𝓛 mem run)
+  cursor_shown = equation 𝓤 _ _ _ (λ κs a g r e. refl)
 
   -- picture::frame::rows: Rows chip r
-  pub frame-rows : DeterminesAnswer 𝓤 frame·rows.ended (frame·rows.clauses 𝓛 mem run)
-  frame-rows = answer 𝓤 _ _ _ (λ κs a g r e. refl) (λ κs a r s e f p q. p.is ∙ sym q.is)
+  pub frame_rows : DeterminesAnswer 𝓤 frame·rows.ended (frame·rows.clauses 𝓛 mem run)
+  frame_rows = answer 𝓤 _ _ _ (λ κs a g r e. refl) (λ κs a r s e f p q. p.is ∙ sym q.is)
 
   -- picture::frame::frame_size: FrameSize chip r
-  pub frame-size : DeterminesAnswer 𝓤 frame·size.ended (frame·size.clauses 𝓛 mem run)
-  frame-size = answer 𝓤 _ _ _ (λ κs a g r e. refl) (λ κs a r s e f p q. p.is ∙ sym q.is)
+  pub frame_size_lem : DeterminesAnswer 𝓤 frame·size.ended (frame·size.clauses 𝓛 mem run)
+  frame_size_lem = answer 𝓤 _ _ _ (λ κs a g r e. refl) (λ κs a r s e f p q. p.is ∙ sym q.is)
 
   -- picture::frame::lit_at: r ≡ litAt chip (now frame.entry) row column
-  pub lit-at : DeterminesAnswer 𝓤 frame·lit.ended (frame·lit.clauses 𝓛 mem run)
-  lit-at = equation 𝓤 _ _ _ (λ κs a g r e. refl)
+  pub lit_at_lem : DeterminesAnswer 𝓤 frame·lit.ended (frame·lit.clauses 𝓛 mem run)
+  lit_at_lem = equation 𝓤 _ _ _ (λ κs a g r e. refl)
 
   -- picture::mode::upright: r ≡ uprightOf panel
   pub upright : DeterminesAnswer 𝓤 mode·upright.ended (mode·upright.clauses 𝓛 mem run)
@@ -68,8 +68,8 @@ module _ {M : Type 1} {𝓤 : Ura M} (𝓛 : Logic 𝓤) (mem : Memory → SProp
   paint = record { Says = _; stated = λ κs a g r e. refl; one = λ κs a r s e f p q. (p.told ∙ sym q.told, p.left ∙ sym q.left) }
 
   -- picture::paint::Painted::refusal: r ≡ paintRefusal self
-  pub painted-refusal : DeterminesAnswer 𝓤 paint·refusal.ended (paint·refusal.clauses 𝓛 mem run)
-  painted-refusal = equation 𝓤 _ _ _ (λ κs a g r e. refl)
+  pub painted_refusal : DeterminesAnswer 𝓤 paint·refusal.ended (paint·refusal.clauses 𝓛 mem run)
+  painted_refusal = equation 𝓤 _ _ _ (λ κs a g r e. refl)
 
   -- picture::pattern::pattern: r ≡ patternOf memory number
   pub pattern : DeterminesAnswer 𝓤 pattern·pattern.ended (pattern·pattern.clauses 𝓤 H A mem run)
@@ -80,8 +80,8 @@ module _ {M : Type 1} {𝓤 : Ura M} (𝓛 : Logic 𝓤) (mem : Memory → SProp
   patterns = equation 𝓤 _ _ _ (λ κs a g r e. refl)
 
   -- picture::screen::code_at: r ≡ codeAt sheet line at
-  pub code-at : DeterminesAnswer 𝓤 screen·code.ended (screen·code.clauses 𝓛 mem run)
-  code-at = equation 𝓤 _ _ _ (λ κs a g r e. refl)
+  pub code_at_lem : DeterminesAnswer 𝓤 screen·code.ended (screen·code.clauses 𝓛 mem run)
+  code_at_lem = equation 𝓤 _ _ _ (λ κs a g r e. refl)
 
   -- picture::screen::codes: r ≡ codesOf sheet line
   pub codes : DeterminesAnswer 𝓤 screen·codes.ended (screen·codes.clauses 𝓛 mem run)

@@ -21,12 +21,12 @@ use Rattle.demands.specs.Unknown.{RefusedCalls, UnknownRefused, DisagreeingRefus
 
 -- a panel that is not sound is refused by every call but the comparison, which is told a chip alone
 module _ (p : Panel) (e : sound_panel p ≡ false) where
-  refused-run : (log : List ℕ) → run_of p log ≡ run_as false p log
+  refused_run : (log : List ℕ) → run_of p log ≡ run_as false p log
   unfolding run_of
-  refused-run log = ap (λ b. run_as b p log) e
+  refused_run log = ap (λ b. run_as b p log) e
 
-  refused-start : start_as (sound_panel p) p ≡ start_as false p
-  refused-start = ap (λ b. start_as b p) e
+  refused_start : start_as (sound_panel p) p ≡ start_as false p
+  refused_start = ap (λ b. start_as b p) e
 
 unknown_unsound : (p : Panel) → is_known p.sheet.registers.chip ≡ false → sound_panel p ≡ false
 unknown_unsound p k = rw k
@@ -37,10 +37,10 @@ unsound_refused p e =
       answered = λ log. ap (λ (r : Recorded). paper r.answer r.byte) (refused_unsound p log e);
       unused = λ log. ap (λ (r : Recorded). r.used) (refused_unsound p log e);
       kept = λ log. ap (λ (r : Recorded). r.panel) (refused_unsound p log e);
-      runs = λ log. ap summed (refused-run p e log);
-      left = λ log. ap (λ (r : Run). r.panel) (refused-run p e log);
+      runs = λ log. ap summed (refused_run p e log);
+      left = λ log. ap (λ (r : Run). r.panel) (refused_run p e log);
       fed = feed_run p;
-      nexts = λ part. sym (next_refused (start_as (sound_panel p) p) part (ap (λ (st : Stream). st.refused) (refused-start p e)));
+      nexts = λ part. sym (next_refused (start_as (sound_panel p) p) part (ap (λ (st : Stream). st.refused) (refused_start p e)));
       paints = λ font dark frame. rw e;
       frames = λ font dark frame. rw e;
       places = rw e;

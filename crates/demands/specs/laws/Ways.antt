@@ -63,8 +63,8 @@ module _ (p : Panel) (time : ℕ) (rs : Bool) (bus : ℕ) (eight : Bool) (h : Ha
   abbrev byte : ℕ
   byte = joined_of eight h bus
 
-  finish-goes : Fits eight h false → Goes p time rs false bus eight h (went (finish_of rs byte) time rs false bus byte p)
-  finish-goes f = by rs (eqb byte 0) refl
+  finish_goes : Fits eight h false → Goes p time rs false bus eight h (went (finish_of rs byte) time rs false bus byte p)
+  finish_goes f = by rs (eqb byte 0) refl
     where
       by : (rs z : Bool) → eqb byte 0 ≡ z →
           Goes p time rs false bus eight h (went (pick rs Way.Write (pick z Way.Nothing Way.Obey)) time rs false bus byte p)
@@ -79,7 +79,7 @@ read_acts false = doubtful
 
 whole_goes : (p : Panel) (time : ℕ) (rs reads : Bool) (bus : ℕ) (h : Half) (z : Bool) → h ≡ Empty →
     Goes p time rs reads bus true h (went (whole_of z rs reads bus) time rs reads bus bus p)
-whole_goes p time rs false bus h true n = finish-goes p time rs bus true h n
+whole_goes p time rs false bus h true n = finish_goes p time rs bus true h n
 whole_goes p time rs false bus h false n = drops say.Ignored 0 ignored
 whole_goes p time true true bus h true n = acts (read_as (is_good p)) (read_acts (is_good p)) read p.times.short (read_byte p) refl tt n
 whole_goes p time true true bus h false n = drops say.Ignored 0 ignored
@@ -96,7 +96,7 @@ first_goes p time false true bus byte z = begins (status_of time p % 16) (high (
 second_goes : (p : Panel) (time : ℕ) (rs reads : Bool) (bus : ℕ) (r w : Bool) (nibble : ℕ) → w ≡ reads →
     let byte = joined_of false (Waiting r w nibble) bus in
     Goes p time rs reads bus false (Waiting r w nibble) (went (second_of rs reads byte) time rs reads bus byte p)
-second_goes p time rs false bus r w nibble e = finish-goes p time rs bus false (Waiting r w nibble) e
+second_goes p time rs false bus r w nibble e = finish_goes p time rs bus false (Waiting r w nibble) e
 second_goes p time true true bus r w nibble e = acts (read_as (is_good p)) (read_acts (is_good p)) read p.times.short (pick (is_good p) (nibble_of p.half * 16) 0) refl tt e
 second_goes p time false true bus r w nibble e = drops say.Status (nibble_of p.half * 16) status
 

@@ -7,7 +7,7 @@ use Rattle.desk.specs.Page.{Puts, PutsSome, PutsHere, page_size}
 use Rattle.desk.specs.Clock.{Decimal, Hours, Clock, within_hour}
 use Rattle.desk.specs.Clock.Hours.{two, more}
 use Rattle.desk.specs.Page.PutsHere.{room, full}
-use Rattle.desk.specs.laws.PageLaws.{puts-page, puts-end, puts_then}
+use Rattle.desk.specs.laws.PageLaws.{puts_page, puts_end, puts_then}
 
 -- fewer digits than the fewest do not hold it
 not_fewer : (n j k : ℕ) → IsDigitCount 10 1 n j → IsDigitCount 10 1 n k → suc j ≤ k → ⊥
@@ -55,22 +55,22 @@ module _ (Kind : List ℕ → Type 0) (one : (a b : List ℕ) → Kind a → Kin
   same : Puts P.bytes before at after' end'
   same = subst (λ (s : List ℕ). Puts s before at after' end') (one _ _ Q.kind P.kind) Q.puts
 
-  pub some-page : after ≡ after'
-  some-page = puts-page P.bytes before at after after' end end' P.puts same
+  pub some_page : after ≡ after'
+  some_page = puts_page P.bytes before at after after' end end' P.puts same
 
   pub some_end : end ≡ end'
-  some_end = puts-end P.bytes before at after after' end end' P.puts same
+  some_end = puts_end P.bytes before at after after' end end' P.puts same
 
 -- nor does it matter where there may be no room
 module _ (most : ℕ) (Kind : List ℕ → Type 0) (one : (a b : List ℕ) → Kind a → Kind b → a ≡ b) (before : List ℕ) (at : ℕ) (after after' : List ℕ) (end end' : ℕ) where
   apart : at + most ≤ page_size → page_size < at + most → ⊥
   apart r f = omega arith
 
-  pub here-page : PutsHere most Kind before at after end → PutsHere most Kind before at after' end' → after ≡ after'
-  here-page (room r P) (room s Q) = some-page Kind one before at after after' end end' P Q
-  here-page (room r P) (full g p q) = absurd (apart r g)
-  here-page (full f p q) (room s Q) = absurd (apart s f)
-  here-page (full f p q) (full g p' q') = p ∙ sym p'
+  pub here_page : PutsHere most Kind before at after end → PutsHere most Kind before at after' end' → after ≡ after'
+  here_page (room r P) (room s Q) = some_page Kind one before at after after' end end' P Q
+  here_page (room r P) (full g p q) = absurd (apart r g)
+  here_page (full f p q) (room s Q) = absurd (apart s f)
+  here_page (full f p q) (full g p' q') = p ∙ sym p'
 
   pub here_end : PutsHere most Kind before at after end → PutsHere most Kind before at after' end' → end ≡ end'
   here_end (room r P) (room s Q) = some_end Kind one before at after after' end end' P Q

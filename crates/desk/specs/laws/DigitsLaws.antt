@@ -55,8 +55,8 @@ module _ (n : ℕ) (bytes : List ℕ) (from rest : ℕ) (fits : n < 2 ^ 64) (s :
   at_least x h = (le-div_iff_mul-le (ten_pos s.done)).0 (subst (λ (y : ℕ). x ≤ y) (sym s.left) h)
 
   -- there is room for one digit more
-  pub spelling-room : 0 < from
-  spelling-room =
+  pub spelling_room : 0 < from
+  spelling_room =
       lt_of_not-le (λ (g : from ≤ 0).
       let all : s.done ≡ most_digits = omega (arith, g, s.places) in
       let one : 1 * 10 ^ s.done ≤ n = at_least 1 (s.some (omega (arith, all))) in
@@ -67,24 +67,24 @@ module _ (n : ℕ) (bytes : List ℕ) (from rest : ℕ) (fits : n < 2 ^ 64) (s :
     inside : m < length bytes
     inside = omega (arith, at, s.places, s.long)
 
-    abbrev with-digit : List ℕ
-    with-digit = slice_set bytes m (48 + rest % 10)
+    abbrev with_digit : List ℕ
+    with_digit = slice_set bytes m (48 + rest % 10)
 
-    shown : drop m with-digit ≡ hex_digit_ascii (rest % 10) ∷ drop from bytes
+    shown : drop m with_digit ≡ hex_digit_ascii (rest % 10) ∷ drop from bytes
     shown =
         front bytes m (48 + rest % 10) inside ∙ ap (λ (j : ℕ). (48 + rest % 10) ∷ drop j bytes) (sym at)
         ∙ ap (λ (x : ℕ). x ∷ drop from bytes) (sym (digit_glyph rest))
 
-    behind-one : (k : ℕ) → last_digits 10 (k + (s.done + 1)) n ≡ last_digits 10 k (rest / 10) ++ drop m with-digit
-    behind-one k =
+    behind_one : (k : ℕ) → last_digits 10 (k + (s.done + 1)) n ≡ last_digits 10 k (rest / 10) ++ drop m with_digit
+    behind_one k =
         let more : k + (s.done + 1) ≡ suc k + s.done = omega arith in
         ap (λ (j : ℕ). last_digits 10 j n) more ∙ s.behind (suc k)
         ∙ append_assoc (last_digits 10 k (rest / 10)) (hex_digit_ascii (rest % 10) ∷ []) (drop from bytes)
         ∙ ap (λ (t : List ℕ). last_digits 10 k (rest / 10) ++ t) (sym shown)
 
     -- one digit more
-    pub spelling-step : 9 < rest → Spelling n with-digit m (rest / 10)
-    spelling-step more =
+    pub spelling_step : 9 < rest → Spelling n with_digit m (rest / 10)
+    spelling_step more =
         let next : 10 ^ (s.done + 1) ≡ 10 ^ s.done * 10 = ap (λ (j : ℕ). 10 ^ j) (add-one s.done) ∙ pow-suc 10 s.done in
         record {
           done = s.done + 1;
@@ -94,12 +94,12 @@ module _ (n : ℕ) (bytes : List ℕ) (from rest : ℕ) (fits : n < 2 ^ 64) (s :
               ap (λ (x : ℕ). n / x) next ∙ sym (div-div-eq-div-mul n (10 ^ s.done) 10)
               ∙ ap (λ (x : ℕ). x / 10) s.left;
           some = λ h. omega (arith, more);
-          behind = behind-one;
+          behind = behind_one;
         }
 
     -- the first digit
-    pub spelling-end : rest < 10 → EndsIn (Decimal n) with-digit m
-    spelling-end last =
+    pub spelling_end : rest < 10 → EndsIn (Decimal n) with_digit m
+    spelling_end last =
         let next : 10 ^ (s.done + 1) ≡ 10 * 10 ^ s.done = ap (λ (j : ℕ). 10 ^ j) (add-one s.done) ∙ pow-succ' 10 s.done in
         let below : n < 10 * 10 ^ s.done = (div-lt_iff_lt-mul (ten_pos s.done)).0 (subst (λ (y : ℕ). y < 10) (sym s.left) last) in
         let fewer : s.done + 1 - 1 ≡ s.done = omega arith in
@@ -115,28 +115,28 @@ module _ (n : ℕ) (bytes : List ℕ) (from rest : ℕ) (fits : n < 2 ^ 64) (s :
                   omega (arith, below, next),
                   λ h. let one : 1 * 10 ^ s.done ≤ n = at_least 1 (s.some (omega (arith, h))) in omega (arith, one, same),
                 );
-                written = sym (behind-one 0) ∙ ap (λ (j : ℕ). last_digits 10 j n) (zero-add (s.done + 1));
+                written = sym (behind_one 0) ∙ ap (λ (j : ℕ). last_digits 10 j n) (zero-add (s.done + 1));
               };
         }
 
 -- the part of the array that is put
 module _ (Kind : List ℕ → Type 0) (bytes : List ℕ) (from : ℕ) (e : EndsIn Kind bytes from) where
-  shown-length : length (drop from bytes) ≡ most_digits - from
-  shown-length = length-drop from bytes ∙ ap (λ (k : ℕ). k - from) e.long
+  shown_length : length (drop from bytes) ≡ most_digits - from
+  shown_length = length-drop from bytes ∙ ap (λ (k : ℕ). k - from) e.long
 
   pub part : take (most_digits - from) (drop from bytes) ≡ drop from bytes
-  part = take_all (most_digits - from) (drop from bytes) (omega (arith, shown-length))
+  part = take_all (most_digits - from) (drop from bytes) (omega (arith, shown_length))
 
   pub part_length : length (take (most_digits - from) (drop from bytes)) ≡ most_digits - from
-  part_length = ap length part ∙ shown-length
+  part_length = ap length part ∙ shown_length
 
-  pub part-puts : (before after : List ℕ) (at end : ℕ) → Puts (take (most_digits - from) (drop from bytes)) before at after end → PutsSome Kind before at after end
-  part-puts before after at end P =
+  pub part_puts : (before after : List ℕ) (at end : ℕ) → Puts (take (most_digits - from) (drop from bytes)) before at after end → PutsSome Kind before at after end
+  part_puts before after at end P =
       record { bytes = drop from bytes; kind = e.kind; puts = subst (λ (s : List ℕ). Puts s before at after end) part P }
 
   -- and pasted, where the page has room for the most digits
-  pub part-pasted : (before after : List ℕ) (at : ℕ) → Puts (take (most_digits - from) (drop from bytes)) before at after (at + length (take (most_digits - from) (drop from bytes)))
+  pub part_pasted : (before after : List ℕ) (at : ℕ) → Puts (take (most_digits - from) (drop from bytes)) before at after (at + length (take (most_digits - from) (drop from bytes)))
       → PutsSome Kind before at after (at + most_digits - from)
-  part-pasted before after at P =
+  part_pasted before after at P =
       let next : at + length (take (most_digits - from) (drop from bytes)) ≡ at + most_digits - from = omega (arith, part_length, e.inside) in
-      subst (PutsSome Kind before at after) next (part-puts before after at _ P)
+      subst (PutsSome Kind before at after) next (part_puts before after at _ P)

@@ -52,13 +52,13 @@ put_one byte before at place e = ap (λ (n : ℕ). filled (slice_set before n by
 
 -- the same bytes, put at the same place, leave one page and one end
 module _ (bytes before : List ℕ) (at : ℕ) (after after' : List ℕ) (end end' : ℕ) (P : Puts bytes before at after end) (Q : Puts bytes before at after' end') where
-  pub puts-page : after ≡ after'
+  pub puts_page : after ≡ after'
   unfolding Puts
-  puts-page = ap (λ (p : Page). p.bytes) (P ∙ sym Q)
+  puts_page = ap (λ (p : Page). p.bytes) (P ∙ sym Q)
 
-  pub puts-end : end ≡ end'
+  pub puts_end : end ≡ end'
   unfolding Puts
-  puts-end = ap (λ (p : Page). p.end) (P ∙ sym Q)
+  puts_end = ap (λ (p : Page). p.end) (P ∙ sym Q)
 
 -- one byte where the page has room for it
 pub paste_step : (bytes before page : List ℕ) (at i : ℕ) → Left bytes i page (at + i) before at → i < length bytes → at + length bytes ≤ page_size →

@@ -11,16 +11,16 @@ use Rattle.dots.specs.First.{first, first_dot, Before}
 
 -- what a loop over the places does
 module _ {A : Type 0} (t : ℕ → Bool) (found : ℕ → A) (none : A) where
-  pub first-end : (x n : ℕ) → n ≤ x → first t found none x (n - x) ≡ none
+  pub first_end : (x n : ℕ) → n ≤ x → first t found none x (n - x) ≡ none
   unfolding first
-  first-end x n h = let e : n - x ≡ 0 = omega arith in ap (first t found none x) e
+  first_end x n h = let e : n - x ≡ 0 = omega arith in ap (first t found none x) e
 
   opened : (x n : ℕ) → x < n → first t found none x (n - x) ≡ pick (t x) (found x) (first t found none (x + 1) (n - (x + 1)))
   unfolding first
   opened x n h = let e : n - x ≡ suc (n - (x + 1)) = omega arith in ap (first t found none x) e
 
-  pub first-here : (x n : ℕ) → x < n → t x ≡ true → first t found none x (n - x) ≡ found x
-  first-here x n h e = opened x n h ∙ rw e
+  pub first_here : (x n : ℕ) → x < n → t x ≡ true → first t found none x (n - x) ≡ found x
+  first_here x n h e = opened x n h ∙ rw e
 
   pub first_next : (x n : ℕ) → x < n → t x ≡ false → first t found none x (n - x) ≡ first t found none (x + 1) (n - (x + 1))
   first_next x n h e = opened x n h ∙ rw e
@@ -60,17 +60,17 @@ module _ {A : Type 0} (t : ℕ → ℕ → Bool) (found : ℕ → ℕ → A) (no
       ap (first_dot t found none cols r) e ∙ ap (first (t r) (found r) (first_dot t found none cols (r + 1) (n - (r + 1))) 0) z
 
   -- whatever holds of the first dot that is found, with none before it, and of `none` where there is no such dot, holds
-  pub first-dot-says : (P : A → Type 0) (r k : ℕ)
+  pub first_dot_says : (P : A → Type 0) (r k : ℕ)
       → ((s x : ℕ) → r ≤ s → s < r + k → x < cols → t s x ≡ true → ((i y : ℕ) → r ≤ i → y < cols → Before i y s x → t i y ≡ false) → P (found s x))
       → (((i y : ℕ) → r ≤ i → i < r + k → y < cols → t i y ≡ false) → P none)
       → P (first_dot t found none cols r k)
   unfolding first_dot
-  first-dot-says P r zero hit miss = miss (λ i y p q h. absurd (omega arith))
-  first-dot-says P r (suc k) hit miss =
+  first_dot_says P r zero hit miss = miss (λ i y p q h. absurd (omega arith))
+  first_dot_says P r (suc k) hit miss =
       first_says (t r) (found r) (first_dot t found none cols (r + 1) k) P 0 cols
       (λ x _ q u before. hit r x (omega arith) (omega arith) (omega arith) u (λ i y p h b. in_row i y x p before b))
       (λ row.
-      first-dot-says P (r + 1) k
+      first_dot_says P (r + 1) k
       (λ s x p q h u before. hit s x (omega arith) (omega arith) h u (λ i y ip yh b. above row i y ip yh (λ l. before i y l yh b) (ℕ_discrete i r)))
       (λ rest. miss (λ i y ip iq yh. above row i y ip yh (λ l. rest i y l (omega arith) yh) (ℕ_discrete i r))))
     where

@@ -74,17 +74,17 @@ sum_without h (suc n) a p = by (ℕ_discrete n a) (λ d. sum_without h n a (omeg
 
 -- places that are led to one by one, no two to the same: what is 0 at every other adds up to what stands at these
 module _ (m : ℕ) (to : ℕ → ℕ) where
-  pub sum-reached : (n : ℕ) (h : ℕ → ℕ) → ((k : ℕ) → k < n → to k < m)
+  pub sum_reached : (n : ℕ) (h : ℕ → ℕ) → ((k : ℕ) → k < n → to k < m)
       → ((k l : ℕ) → k < n → l < n → to k ≡ to l → k ≡ l)
       → ((j : ℕ) → j < m → ((k : ℕ) → k < n → to k ≡ j → ⊥) → h j ≡ 0)
       → sum h m ≡ sum (λ k. h (to k)) n
   unfolding sum
-  sum-reached zero h within apart off =
+  sum_reached zero h within apart off =
       sum_cong h (λ j. 0) m (λ j p. off j p (λ k q. absurd (not-suc-le-zero q))) ∙ sum_zero m
-  sum-reached (suc n) h within apart off =
+  sum_reached (suc n) h within apart off =
       sum_without h m (to n) (within n (omega arith))
       ∙ ap (λ (x : ℕ). x + h (to n))
-      (sum-reached n (without h (to n)) (λ k p. within k (omega arith)) (λ k l p q. apart k l (omega arith) (omega arith)) (λ j p none. by j p none (ℕ_discrete j (to n)))
+      (sum_reached n (without h (to n)) (λ k p. within k (omega arith)) (λ k l p q. apart k l (omega arith) (omega arith)) (λ j p none. by j p none (ℕ_discrete j (to n)))
       ∙ sum_cong (λ k. without h (to n) (to k)) (λ k. h (to k)) n
       (λ k p. rw (ne_eqb (to k) (to n) (λ e. let z : k ≡ n = apart k n (omega arith) (omega arith) e in omega arith))))
     where

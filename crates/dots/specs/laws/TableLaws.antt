@@ -10,11 +10,11 @@ unfolding table
 length_table h zero = refl
 length_table h (suc n) = ap suc (length_table (λ i. h (suc i)) n)
 
-pub getD_table : {A : Type 0} (h : ℕ → A) (n i : ℕ) (d : A) → i < n → get_or (table h n) i d ≡ h i
+pub get_d_table : {A : Type 0} (h : ℕ → A) (n i : ℕ) (d : A) → i < n → get_or (table h n) i d ≡ h i
 unfolding table
-getD_table h zero i d p = absurd (not-suc-le-zero p)
-getD_table h (suc n) zero d p = refl
-getD_table h (suc n) (suc i) d p = getD_table (λ k. h (suc k)) n i d (le_of_suc-le-suc p)
+get_d_table h zero i d p = absurd (not-suc-le-zero p)
+get_d_table h (suc n) zero d p = refl
+get_d_table h (suc n) (suc i) d p = get_d_table (λ k. h (suc k)) n i d (le_of_suc-le-suc p)
 
 pub table_cong : {A : Type 0} (f g : ℕ → A) (n : ℕ) → ((i : ℕ) → i < n → f i ≡ g i) → table f n ≡ table g n
 unfolding table
@@ -53,7 +53,7 @@ fill_step h n l i a F p e = record {
 pub fill_end : (h : ℕ → ℕ) (n : ℕ) (l : List ℕ) (i : ℕ) → Filled h n l i → n ≤ i → l ≡ table h n
 fill_end h n l i F p =
     ext_get_or 0 l (table h n) (F.long ∙ sym (length_table h n))
-    (λ k q. F.at k (omega (arith, F.long)) ∙ sym (getD_table h n k 0 (omega (arith, F.long))))
+    (λ k q. F.at k (omega (arith, F.long)) ∙ sym (get_d_table h n k 0 (omega (arith, F.long))))
 
 pub in_order_none : {A : Type 0} (step : ℕ → A → A) (a : A) → in_order step 0 a ≡ a
 unfolding in_order

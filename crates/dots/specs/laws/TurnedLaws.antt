@@ -6,7 +6,7 @@ use Rattle.laws.specs.Bit.{bit, one}
 use Rattle.dots.specs.Landing.{Landing, dot, dots_frame, count_of}
 use Rattle.dots.specs.Turned.{Turn, turned}
 use Rattle.dots.specs.engine.Ones.{ones_of}
-use Rattle.dots.specs.laws.LandingLaws.{dot-frame, spare-frame, length-frame, bytes-frame, is-frame}
+use Rattle.dots.specs.laws.LandingLaws.{dot_frame, spare_frame, length_frame, bytes_frame, is_frame}
 use Rattle.dots.specs.laws.OnesLaws.{ones_frame}
 
 module _ (L : Landing) (rows : Turn L.rows) (columns : Turn L.cols) where
@@ -18,35 +18,35 @@ module _ (L : Landing) (rows : Turn L.rows) (columns : Turn L.cols) where
   again = turned once rows columns
 
   -- the frame turned shows at L's own places the dots turned
-  pub turned-frame : (g : ℕ → ℕ → Bool) → dots_frame once g ≡ dots_frame L (λ r x. g (rows.at r) (columns.at x))
+  pub turned_frame : (g : ℕ → ℕ → Bool) → dots_frame once g ≡ dots_frame L (λ r x. g (rows.at r) (columns.at x))
   unfolding dots_frame
-  turned-frame g = refl
+  turned_frame g = refl
 
   -- and at the places that they take the dots themselves
-  pub turned-dot : (g : ℕ → ℕ → Bool) (r x : ℕ) → r < L.rows → x < L.cols → dot L (dots_frame once g) (rows.at r) (columns.at x) ≡ one (g r x)
-  turned-dot g r x p q = dot-frame once g r x p q
+  pub turned_dot : (g : ℕ → ℕ → Bool) (r x : ℕ) → r < L.rows → x < L.cols → dot L (dots_frame once g) (rows.at r) (columns.at x) ≡ one (g r x)
+  turned_dot g r x p q = dot_frame once g r x p q
 
   -- turning twice is not turning: every dot lands where it did
-  pub twice-lands : (r x : ℕ) → r < L.rows → x < L.cols → (again.byte_at r x ≡ L.byte_at r x) × (again.bit_at r x ≡ L.bit_at r x)
-  twice-lands r x p q = (
+  pub twice_lands : (r x : ℕ) → r < L.rows → x < L.cols → (again.byte_at r x ≡ L.byte_at r x) × (again.bit_at r x ≡ L.bit_at r x)
+  twice_lands r x p q = (
     ap₂ L.byte_at (rows.twice r p) (columns.twice x q),
     ap₂ L.bit_at (rows.twice r p) (columns.twice x q),
   )
 
   -- and the frame is the one that was not turned
-  pub twice-frame : (g : ℕ → ℕ → Bool) → dots_frame again g ≡ dots_frame L g
-  twice-frame g =
-      is-frame L g (dots_frame again g) (length-frame again g) (bytes-frame again g)
-      (λ r x p q. let lands = twice-lands r x p q in
-      sym (ap₂ (λ (b i : ℕ). bit (get_or (dots_frame again g) b 0) i) lands.0 lands.1) ∙ dot-frame again g r x p q)
-      (spare-frame again g)
+  pub twice_frame : (g : ℕ → ℕ → Bool) → dots_frame again g ≡ dots_frame L g
+  twice_frame g =
+      is_frame L g (dots_frame again g) (length_frame again g) (bytes_frame again g)
+      (λ r x p q. let lands = twice_lands r x p q in
+      sym (ap₂ (λ (b i : ℕ). bit (get_or (dots_frame again g) b 0) i) lands.0 lands.1) ∙ dot_frame again g r x p q)
+      (spare_frame again g)
 
   -- as many dots are lit, however they are turned
-  pub turned-count : (g : ℕ → ℕ → Bool) → count_of once g ≡ count_of L g
+  pub turned_count : (g : ℕ → ℕ → Bool) → count_of once g ≡ count_of L g
   unfolding count_of
-  turned-count g = refl
+  turned_count g = refl
 
-  pub count-turned : (g : ℕ → ℕ → Bool) → count_of L (λ r x. g (rows.at r) (columns.at x)) ≡ count_of L g
-  count-turned g =
+  pub count_turned : (g : ℕ → ℕ → Bool) → count_of L (λ r x. g (rows.at r) (columns.at x)) ≡ count_of L g
+  count_turned g =
       sym (ones_frame L (λ r x. g (rows.at r) (columns.at x)))
-      ∙ ap ones_of (sym (turned-frame g)) ∙ ones_frame once g ∙ turned-count g
+      ∙ ap ones_of (sym (turned_frame g)) ∙ ones_frame once g ∙ turned_count g

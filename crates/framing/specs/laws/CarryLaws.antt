@@ -12,7 +12,7 @@ use Rattle.framing.specs.Carry.{room, carried_of, carry_of, wanting_of, reach, u
 use Rattle.framing.specs.engine.Reading.{Reach}
 use Rattle.framing.specs.laws.FrontLaws.{Front, uncut_front, length_same}
 use Rattle.framing.specs.laws.FrameLaws.{frame_append, cut_frame}
-use Rattle.framing.specs.laws.FramesLaws.{record-first}
+use Rattle.framing.specs.laws.FramesLaws.{record_first}
 
 -- what is left of a part where its bytes made the carried record whole
 abbrev pub left : List ℕ → List ℕ → List ℕ
@@ -167,38 +167,38 @@ module _ (c p : List ℕ) where
   r = left c p
 
   -- nothing is lost
-  pub fill-rest : filled c p ++ left c p ≡ c ++ p
-  fill-rest = up_to_rest (reach (c ++ p)) c p
+  pub fill_rest : filled c p ++ left c p ≡ c ++ p
+  fill_rest = up_to_rest (reach (c ++ p)) c p
 
   -- and what it took, with what is left, is the part
   pub more_left : more c p ++ left c p ≡ p
   more_left = take_drop_length (reach (c ++ p) - length c) p
 
   -- where the record still wants more, the whole part was taken
-  pub fill-wants : wants_more (filled c p) ≡ true → more c p ≡ p
-  fill-wants w = up_to_all (reach (c ++ p)) c p (rw fill-rest at (wants_reach v r w))
+  pub fill_wants : wants_more (filled c p) ≡ true → more c p ≡ p
+  fill_wants w = up_to_all (reach (c ++ p)) c p (rw fill_rest at (wants_reach v r w))
 
   -- where its length lies outside, that is so of all the bytes
-  pub fill-broken : broken (filled c p) ≡ true → broken (c ++ p) ≡ true
-  fill-broken b = rw fill-rest at (broken_append v r b)
+  pub fill_broken : broken (filled c p) ≡ true → broken (c ++ p) ≡ true
+  fill_broken b = rw fill_rest at (broken_append v r b)
 
   -- where it is whole, it is one record and nothing more
-  pub fill-front : wants_more c ≡ true → cut_at (filled c p) ≡ false → Front (filled c p) (length (filled c p))
-  fill-front w u =
+  pub fill_front : wants_more c ≡ true → cut_at (filled c p) ≡ false → Front (filled c p) (length (filled c p))
+  fill_front w u =
       let f = uncut_front v u in
-      let n : reach (c ++ p) ≡ record_size v = ap reach (sym fill-rest) ∙ front_reach r f in
+      let n : reach (c ++ p) ≡ record_size v = ap reach (sym fill_rest) ∙ front_reach r f in
       let l : length v ≡ length c + min (reach (c ++ p) - length c) (length p) =
       length-append c (more c p) ∙ ap (λ (m : ℕ). length c + m) (length-take (reach (c ++ p) - length c) p) in
       let e : record_size v ≡ length v = omega (arith, wants_reach c p w, f.fits) in
       rw e at f
 
   -- and the rest is read on from the part
-  pub fill-whole : wants_more c ≡ true → cut_at (filled c p) ≡ false → pieces (c ++ p) ≡ then (filled c p ∷ []) (pieces (left c p))
-  fill-whole w u = ap pieces (sym fill-rest) ∙ record-first r (fill-front w u)
+  pub fill_whole : wants_more c ≡ true → cut_at (filled c p) ≡ false → pieces (c ++ p) ≡ then (filled c p ∷ []) (pieces (left c p))
+  fill_whole w u = ap pieces (sym fill_rest) ∙ record_first r (fill_front w u)
 
   -- it never outgrows a carry
-  pub fill-few : length c ≤ room → length (filled c p) ≤ room
-  fill-few h =
+  pub fill_few : length c ≤ room → length (filled c p) ≤ room
+  fill_few h =
       let l : length v ≡ length c + min (reach (c ++ p) - length c) (length p) =
       length-append c (more c p) ∙ ap (λ (m : ℕ). length c + m) (length-take (reach (c ++ p) - length c) p) in
       omega (arith, reach_most (c ++ p))
@@ -207,9 +207,9 @@ module _ (c p : List ℕ) where
   pub fill_frame : frame_of (filled c p) ≡ frame_of (c ++ p)
   fill_frame = by (wants_more v) (broken v) refl refl where
     by : (a b : Bool) → wants_more v ≡ a → broken v ≡ b → frame_of v ≡ frame_of (c ++ p)
-    by true b w o = ap (λ (m : List ℕ). frame_of (c ++ m)) (fill-wants w)
-    by false true w o = cut_frame v (broken_cut v o) ∙ sym (cut_frame (c ++ p) (broken_cut (c ++ p) (fill-broken o)))
-    by false false w o = sym (frame_append v r (cut_either v ∙ rw (w, o))) ∙ ap frame_of fill-rest
+    by true b w o = ap (λ (m : List ℕ). frame_of (c ++ m)) (fill_wants w)
+    by false true w o = cut_frame v (broken_cut v o) ∙ sym (cut_frame (c ++ p) (broken_cut (c ++ p) (fill_broken o)))
+    by false false w o = sym (frame_append v r (cut_either v ∙ rw (w, o))) ∙ ap frame_of fill_rest
 
 -- bytes that want more, or none
 pub wanting_wants : (s : List ℕ) → wants_more (wanting_of s) ≡ true

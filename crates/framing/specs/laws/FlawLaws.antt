@@ -8,41 +8,41 @@ use Rattle.framing.specs.declared.flaw.Flaw.{Flaw}
 use Rattle.framing.specs.declared.flaw.Flaw.TheVariants.{Nothing, Kind, Length, LateTime, StrayControl}
 
 module _ (s : List ℕ) where
-  pub cut-flaw : cut_at s ≡ true → flaw_of s ≡ Nothing
+  pub cut_flaw : cut_at s ≡ true → flaw_of s ≡ Nothing
   unfolding flaw_of
-  cut-flaw u = rw u
+  cut_flaw u = rw u
 
-  pub kind-flaw : cut_at s ≡ false → (kind_of s ≡ 1 → ⊥) → (kind_of s ≡ 2 → ⊥) → flaw_of s ≡ Kind (kind_of s)
+  pub kind_flaw : cut_at s ≡ false → (kind_of s ≡ 1 → ⊥) → (kind_of s ≡ 2 → ⊥) → flaw_of s ≡ Kind (kind_of s)
   unfolding flaw_of
-  kind-flaw u h k = rw (u, ne_eqb (kind_of s) 1 h, ne_eqb (kind_of s) 2 k)
+  kind_flaw u h k = rw (u, ne_eqb (kind_of s) 1 h, ne_eqb (kind_of s) 2 k)
 
-  pub transfer-length-flaw : cut_at s ≡ false → kind_of s ≡ 1 → (length_of s ≡ 12 → ⊥) → flaw_of s ≡ Length (length_of s)
+  pub transfer_length_flaw : cut_at s ≡ false → kind_of s ≡ 1 → (length_of s ≡ 12 → ⊥) → flaw_of s ≡ Length (length_of s)
   unfolding flaw_of
-  transfer-length-flaw u k h = rw (u, k, ne_eqb (length_of s) 12 h)
+  transfer_length_flaw u k h = rw (u, k, ne_eqb (length_of s) 12 h)
 
-  pub reset-length-flaw : cut_at s ≡ false → kind_of s ≡ 2 → (length_of s ≡ 10 → ⊥) → flaw_of s ≡ Length (length_of s)
+  pub reset_length_flaw : cut_at s ≡ false → kind_of s ≡ 2 → (length_of s ≡ 10 → ⊥) → flaw_of s ≡ Length (length_of s)
   unfolding flaw_of
-  reset-length-flaw u k h = rw (u, k, ne_eqb (length_of s) 10 h)
+  reset_length_flaw u k h = rw (u, k, ne_eqb (length_of s) 10 h)
 
-  pub transfer-time-flaw : cut_at s ≡ false → kind_of s ≡ 1 → length_of s ≡ 12 → 2 ^ 48 ≤ time_of s → flaw_of s ≡ LateTime
+  pub transfer_time_flaw : cut_at s ≡ false → kind_of s ≡ 1 → length_of s ≡ 12 → 2 ^ 48 ≤ time_of s → flaw_of s ≡ LateTime
   unfolding flaw_of
-  transfer-time-flaw u k l h = rw (u, k, l, le-leb (2 ^ 48) (time_of s) h)
+  transfer_time_flaw u k l h = rw (u, k, l, le-leb (2 ^ 48) (time_of s) h)
 
-  pub reset-time-flaw : cut_at s ≡ false → kind_of s ≡ 2 → length_of s ≡ 10 → 2 ^ 48 ≤ time_of s → flaw_of s ≡ LateTime
+  pub reset_time_flaw : cut_at s ≡ false → kind_of s ≡ 2 → length_of s ≡ 10 → 2 ^ 48 ≤ time_of s → flaw_of s ≡ LateTime
   unfolding flaw_of
-  reset-time-flaw u k l h = rw (u, k, l, le-leb (2 ^ 48) (time_of s) h)
+  reset_time_flaw u k l h = rw (u, k, l, le-leb (2 ^ 48) (time_of s) h)
 
-  pub control-flaw : cut_at s ≡ false → kind_of s ≡ 1 → length_of s ≡ 12 → time_of s < 2 ^ 48 → 4 ≤ control_of s → flaw_of s ≡ StrayControl
+  pub control_flaw : cut_at s ≡ false → kind_of s ≡ 1 → length_of s ≡ 12 → time_of s < 2 ^ 48 → 4 ≤ control_of s → flaw_of s ≡ StrayControl
   unfolding flaw_of
-  control-flaw u k l t h = rw (u, k, l, lt-leb (2 ^ 48) (time_of s) t, le-leb 4 (control_of s) h)
+  control_flaw u k l t h = rw (u, k, l, lt-leb (2 ^ 48) (time_of s) t, le-leb 4 (control_of s) h)
 
-  pub transfer-no-flaw : cut_at s ≡ false → kind_of s ≡ 1 → length_of s ≡ 12 → time_of s < 2 ^ 48 → control_of s < 4 → flaw_of s ≡ Nothing
+  pub transfer_no_flaw : cut_at s ≡ false → kind_of s ≡ 1 → length_of s ≡ 12 → time_of s < 2 ^ 48 → control_of s < 4 → flaw_of s ≡ Nothing
   unfolding flaw_of
-  transfer-no-flaw u k l t h = rw (u, k, l, lt-leb (2 ^ 48) (time_of s) t, lt-leb 4 (control_of s) h)
+  transfer_no_flaw u k l t h = rw (u, k, l, lt-leb (2 ^ 48) (time_of s) t, lt-leb 4 (control_of s) h)
 
-  pub reset-no-flaw : cut_at s ≡ false → kind_of s ≡ 2 → length_of s ≡ 10 → time_of s < 2 ^ 48 → flaw_of s ≡ Nothing
+  pub reset_no_flaw : cut_at s ≡ false → kind_of s ≡ 2 → length_of s ≡ 10 → time_of s < 2 ^ 48 → flaw_of s ≡ Nothing
   unfolding flaw_of
-  reset-no-flaw u k l t = rw (u, k, l, lt-leb (2 ^ 48) (time_of s) t)
+  reset_no_flaw u k l t = rw (u, k, l, lt-leb (2 ^ 48) (time_of s) t)
 
 -- whether anything is wrong
 abbrev pub is_flaw : Flaw → Bool

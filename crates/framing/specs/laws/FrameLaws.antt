@@ -45,13 +45,13 @@ unfolding frame_of
 cut_frame s e = rw e
 
 module _ {s : List ℕ} {n : ℕ} (f : Front s n) where
-  pub bad-frame : bad_at s ≡ true → frame_of s ≡ Bad n
+  pub bad_frame : bad_at s ≡ true → frame_of s ≡ Bad n
   unfolding frame_of
-  bad-frame b = rw (f.uncut, b, f.size)
+  bad_frame b = rw (f.uncut, b, f.size)
 
-  pub transfer-frame : kind_of s ≡ 1 → bad_at s ≡ false → frame_of s ≡ Transfer (time_of s) (rs_of s) (rw_of s) (data_of s)
+  pub transfer_frame : kind_of s ≡ 1 → bad_at s ≡ false → frame_of s ≡ Transfer (time_of s) (rs_of s) (rw_of s) (data_of s)
   unfolding frame_of
-  transfer-frame k b = rw (f.uncut, b, k)
+  transfer_frame k b = rw (f.uncut, b, k)
 
   pub reset_frame : kind_of s ≡ 2 → bad_at s ≡ false → frame_of s ≡ Reset (time_of s)
   unfolding frame_of
@@ -82,24 +82,24 @@ pub data Seen (s : List ℕ) : Frame → Type 0 where
   reset : Front s 12 → kind_of s ≡ 2 → bad_at s ≡ false → time_of s < 2 ^ 48 → Seen s (Reset (time_of s))
 
 module _ {s : List ℕ} {n : ℕ} (f : Front s n) where
-  seen-bad : bad_at s ≡ true → Seen s (frame_of s)
-  seen-bad b = rw (bad-frame f b) (bad f b)
+  seen_bad : bad_at s ≡ true → Seen s (frame_of s)
+  seen_bad b = rw (bad_frame f b) (bad f b)
 
-  seen-told : Told s n → Seen s (frame_of s)
-  seen-told (unknown h k) = seen-bad (kind_bad s h k)
-  seen-told (no_transfer k h) = seen-bad (transfer_length_bad s k (λ e. h (omega arith)))
-  seen-told (no_reset k h) = seen-bad (reset_length_bad s k (λ e. h (omega arith)))
-  seen-told (transfer k e) = by (late_time s) (leb 4 (control_of s)) refl refl where
+  seen_told : Told s n → Seen s (frame_of s)
+  seen_told (unknown h k) = seen_bad (kind_bad s h k)
+  seen_told (no_transfer k h) = seen_bad (transfer_length_bad s k (λ e. h (omega arith)))
+  seen_told (no_reset k h) = seen_bad (reset_length_bad s k (λ e. h (omega arith)))
+  seen_told (transfer k e) = by (late_time s) (leb 4 (control_of s)) refl refl where
     by : (a b : Bool) → late_time s ≡ a → leb 4 (control_of s) ≡ b → Seen s (frame_of s)
-    by true b l h = seen-bad (time_bad s (leb-true (2 ^ 48) (time_of s) l))
-    by false true l h = seen-bad (control_bad s k (leb-true 4 (control_of s) h))
+    by true b l h = seen_bad (time_bad s (leb-true (2 ^ 48) (time_of s) l))
+    by false true l h = seen_bad (control_bad s k (leb-true 4 (control_of s) h))
     by false false l h =
         let t = leb-false (2 ^ 48) (time_of s) l in
         let g = transfer_good s k (omega arith) t (leb-false 4 (control_of s) h) in
-        rw (transfer-frame f k g) (transfer (rw e at f) k g t)
-  seen-told (reset k e) = by (late_time s) refl where
+        rw (transfer_frame f k g) (transfer (rw e at f) k g t)
+  seen_told (reset k e) = by (late_time s) refl where
     by : (a : Bool) → late_time s ≡ a → Seen s (frame_of s)
-    by true l = seen-bad (time_bad s (leb-true (2 ^ 48) (time_of s) l))
+    by true l = seen_bad (time_bad s (leb-true (2 ^ 48) (time_of s) l))
     by false l =
         let t = leb-false (2 ^ 48) (time_of s) l in
         let g = reset_good s k (omega arith) t in
@@ -109,7 +109,7 @@ pub seen : (s : List ℕ) → Seen s (frame_of s)
 seen s = by (cut_at s) refl where
   by : (b : Bool) → cut_at s ≡ b → Seen s (frame_of s)
   by true u = rw (cut_frame s u) (cut u)
-  by false u = seen-told (uncut_front s u) (told s (record_size s))
+  by false u = seen_told (uncut_front s u) (told s (record_size s))
 
 -- times are below 2^48
 abbrev time_in : Frame → ℕ
@@ -179,37 +179,37 @@ size_fits f = record { least = omega arith; most = omega arith; there = f.fits }
 
 -- a frame looks only at its own bytes
 module _ {s : List ℕ} {n : ℕ} (t : List ℕ) (f : Front s n) where
-  kind-same : kind_of (s ++ t) ≡ kind_of s
-  kind-same = num16_append s t 2 (omega arith)
+  kind_same : kind_of (s ++ t) ≡ kind_of s
+  kind_same = num16_append s t 2 (omega arith)
 
   size_same : length_of (s ++ t) ≡ length_of s
   size_same = length_same s t (omega arith)
 
-  time-same : 12 ≤ n → time_of (s ++ t) ≡ time_of s
-  time-same h = num64_append s t 4 (omega arith)
+  time_same : 12 ≤ n → time_of (s ++ t) ≡ time_of s
+  time_same h = num64_append s t 4 (omega arith)
 
-  byte-same : (i : ℕ) → i < n → get_or (s ++ t) i 0 ≡ get_or s i 0
-  byte-same i h = byte_append s t i (omega arith)
+  byte_same : (i : ℕ) → i < n → get_or (s ++ t) i 0 ≡ get_or s i 0
+  byte_same i h = byte_append s t i (omega arith)
 
-  both-bad : bad_at (s ++ t) ≡ true → bad_at s ≡ true → frame_of (s ++ t) ≡ frame_of s
-  both-bad a b = bad-frame (front_append t f) a ∙ sym (bad-frame f b)
+  both_bad : bad_at (s ++ t) ≡ true → bad_at s ≡ true → frame_of (s ++ t) ≡ frame_of s
+  both_bad a b = bad_frame (front_append t f) a ∙ sym (bad_frame f b)
 
-  append-told : Told s n → frame_of (s ++ t) ≡ frame_of s
+  append_told : Told s n → frame_of (s ++ t) ≡ frame_of s
   unfolding frame_of bad_at
-  append-told (unknown h k) = both-bad (kind_bad (s ++ t) (rw kind-same h) (rw kind-same k)) (kind_bad s h k)
-  append-told (no_transfer k h) =
-      both-bad (transfer_length_bad (s ++ t) (kind-same ∙ k) (rw size_same (λ e. h (omega arith))))
+  append_told (unknown h k) = both_bad (kind_bad (s ++ t) (rw kind_same h) (rw kind_same k)) (kind_bad s h k)
+  append_told (no_transfer k h) =
+      both_bad (transfer_length_bad (s ++ t) (kind_same ∙ k) (rw size_same (λ e. h (omega arith))))
       (transfer_length_bad s k (λ e. h (omega arith)))
-  append-told (no_reset k h) =
-      both-bad (reset_length_bad (s ++ t) (kind-same ∙ k) (rw size_same (λ e. h (omega arith))))
+  append_told (no_reset k h) =
+      both_bad (reset_length_bad (s ++ t) (kind_same ∙ k) (rw size_same (λ e. h (omega arith))))
       (reset_length_bad s k (λ e. h (omega arith)))
-  append-told (transfer k e) =
-      rw ((front_append t f).uncut, f.uncut, kind-same, size_same, time-same (omega arith), byte-same 12 (omega arith), byte-same 13 (omega arith))
-  append-told (reset k e) =
-      rw ((front_append t f).uncut, f.uncut, kind-same, k, size_same, time-same (omega arith))
+  append_told (transfer k e) =
+      rw ((front_append t f).uncut, f.uncut, kind_same, size_same, time_same (omega arith), byte_same 12 (omega arith), byte_same 13 (omega arith))
+  append_told (reset k e) =
+      rw ((front_append t f).uncut, f.uncut, kind_same, k, size_same, time_same (omega arith))
 
 pub frame_append : (s t : List ℕ) → cut_at s ≡ false → frame_of (s ++ t) ≡ frame_of s
-frame_append s t u = append-told t (uncut_front s u) (told s (record_size s))
+frame_append s t u = append_told t (uncut_front s u) (told s (record_size s))
 
 pub frame_take : {s : List ℕ} {n : ℕ} → Front s n → frame_of (take n s) ≡ frame_of s
 frame_take {s} {n} f = sym (frame_append (take n s) (drop n s) (front_take f).uncut) ∙ ap frame_of (take-append-drop n s)

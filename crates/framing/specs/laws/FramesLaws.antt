@@ -65,8 +65,8 @@ module _ (P : List ℕ → Type 0) (ends : (s : List ℕ) → cut_at s ≡ true 
   from (suc k) (b ∷ s) = from k s
   from zero (b ∷ s) = at_front (b ∷ s) (λ u. rw (past b s (length_of (b ∷ s))) at (from (length_of (b ∷ s) + 1) s))
 
-  pub frames-induction : (s : List ℕ) → P s
-  frames-induction s = from 0 s
+  pub frames_induction : (s : List ℕ) → P s
+  frames_induction s = from 0 s
 
 -- the pieces give the log back
 abbrev pub bytes_of : Pieces → List ℕ
@@ -74,7 +74,7 @@ bytes_of p = joined p.records ++ p.rest
 
 pub joined_frames : (s : List ℕ) → joined (frames s) ++ tail s ≡ s
 joined_frames =
-    frames-induction (λ s. bytes_of (pieces s) ≡ s) (λ s u. ap bytes_of (pieces_cut s u))
+    frames_induction (λ s. bytes_of (pieces s) ≡ s) (λ s u. ap bytes_of (pieces_cut s u))
     (λ s u h.
     ap bytes_of (pieces_next s u)
     ∙ append_assoc (take (record_size s) s) (joined (frames (drop (record_size s) s))) (tail (drop (record_size s) s))
@@ -83,7 +83,7 @@ joined_frames =
 
 -- the tail is cut
 pub tail_is_cut : (s : List ℕ) → cut_at (tail s) ≡ true
-tail_is_cut = frames-induction (λ s. cut_at (tail s) ≡ true) (λ s u. rw (tail_cut s u) u) (λ s u h. rw (tail_next s u) h)
+tail_is_cut = frames_induction (λ s. cut_at (tail s) ≡ true) (λ s u. rw (tail_cut s u) u) (λ s u h. rw (tail_next s u) h)
 
 -- a log that goes on: its records stay, and its tail is read on with what comes
 abbrev onward : Pieces → List ℕ → Pieces
@@ -96,7 +96,7 @@ front_pieces {a} {n} b f =
 
 pub pieces_append : (a b : List ℕ) → pieces (a ++ b) ≡ then (frames a) (pieces (tail a ++ b))
 pieces_append a b =
-    frames-induction (λ a. pieces (a ++ b) ≡ onward (pieces a) b) (λ a u. sym (ap (λ (p : Pieces). onward p b) (pieces_cut a u)))
+    frames_induction (λ a. pieces (a ++ b) ≡ onward (pieces a) b) (λ a u. sym (ap (λ (p : Pieces). onward p b) (pieces_cut a u)))
     (λ a u h.
     front_pieces b (uncut_front a u)
     ∙ ap (then (take (record_size a) a ∷ [])) h
@@ -123,8 +123,8 @@ pieces_broken a b e =
     pieces_append a b ∙ ap (then (frames a)) (pieces_cut (tail a ++ b) (broken_cut (tail a ++ b) (broken_append (tail a) b e)))
 
 -- one record's bytes, and nothing else
-pub record-first : {v : List ℕ} (b : List ℕ) → Front v (length v) → pieces (v ++ b) ≡ then (v ∷ []) (pieces b)
-record-first {v} b f = front_pieces b f ∙ rw (take-length v, drop-length v)
+pub record_first : {v : List ℕ} (b : List ℕ) → Front v (length v) → pieces (v ++ b) ≡ then (v ∷ []) (pieces b)
+record_first {v} b f = front_pieces b f ∙ rw (take-length v, drop-length v)
 
 -- every record of a log is just its own bytes
 abbrev pub AllRecords : List (List ℕ) → Type 0
@@ -133,7 +133,7 @@ AllRecords (f ∷ fs) = Front f (length f) × AllRecords fs
 
 pub frames_are_records : (s : List ℕ) → AllRecords (frames s)
 frames_are_records =
-    frames-induction (λ s. AllRecords (frames s)) (λ s u. rw (frames_cut s u) tt)
+    frames_induction (λ s. AllRecords (frames s)) (λ s u. rw (frames_cut s u) tt)
     (λ s u h.
     let f = uncut_front s u in
     rw (frames_next s u) (rw (length-take-le (record_size s) s f.fits) (front_take f), h))
@@ -143,5 +143,5 @@ pub joined_pieces : (fs : List (List ℕ)) (b : List ℕ) → AllRecords fs → 
 joined_pieces [] b h = refl
 joined_pieces (f ∷ fs) b h =
     ap pieces (append_assoc f (joined fs) b)
-    ∙ record-first (joined fs ++ b) h.0
+    ∙ record_first (joined fs ++ b) h.0
     ∙ ap (then (f ∷ [])) (joined_pieces fs b h.1)

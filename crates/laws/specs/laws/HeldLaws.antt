@@ -4,8 +4,8 @@ use Rattle.std.proofs.Common.{sym, ◌∙◌, arith, length-take-le, take_all}
 use Rattle.laws.specs.Held.{Held}
 
 module _ (room : ℕ) (bytes : List ℕ) (len : ℕ) (size : length bytes ≡ room) where
-  pub held-some : len ≤ room → Held room bytes len len
-  held-some h = record { size = size; most = h; is = refl; count = sym (length-take-le len bytes (omega (arith, size))) }
+  pub held_some : len ≤ room → Held room bytes len len
+  held_some h = record { size = size; most = h; is = refl; count = sym (length-take-le len bytes (omega (arith, size))) }
 
   pub held_all : room ≤ len → Held room bytes len room
   held_all h = record {

@@ -18,7 +18,7 @@ use Rattle.mirror.specs.laws.TableCase.{answer_case, each_row}
 use Rattle.mirror.specs.Case.{Acts, Case}
 use Rattle.mirror.specs.Case.Case.{unsound, cut, bad, back, reset, torn, ignored, nothing, held, status, doubtful, taken}
 use Rattle.mirror.specs.laws.RecordKeeps.{not_both}
-use Rattle.mirror.specs.laws.SoundLaws.{Lasts, record-lasts}
+use Rattle.mirror.specs.laws.SoundLaws.{Lasts, record_lasts}
 use Rattle.mirror.specs.laws.TypedLaws.{AllData, frames_data, typed_lasts}
 use Rattle.mirror.specs.Busy.{Noted, noted_as, noted_from, Open, begun_by, byte_by, width_by, width_after, opens, open_after, was_busy, Decided, matches, is_usable, AllDecided, IgnoredExactlyWhenBusy}
 use Rattle.mirror.specs.Busy.Open.{none, first}
@@ -187,14 +187,14 @@ module _ (p : Panel) (log : List ℕ) where
     by n (taken c a b d) = ended eight o 0 refl
 
   -- the byte that is joined of the log is the one that the chip joins
-  byte-same : (eight : Bool) (o : Open) {half : Half} → Agrees o half → half_fits eight half ≡ true → (not eight && not (waits half)) ≡ false →
+  byte_same : (eight : Bool) (o : Open) {half : Half} → Agrees o half → half_fits eight half ≡ true → (not eight && not (waits half)) ≡ false →
       busy_at half (not (is_status log) && not (free (time_of log) p)) ≡ false → differs half (rs_of log) (rw_of log) ≡ false → rw_of log ≡ false →
       (n : ℕ) → byte_by o (entry n) ≡ joined_of eight half (data_of log)
-  byte-same true none closed fits f b d w n = refl
-  byte-same false none closed fits f b d w n = absurd (false≢true (sym f))
-  byte-same eight (first e) (deaf three busy) fits f b d w n = absurd (false≢true (sym b))
-  byte-same true (first e) (kept three busy nib) fits f b d w n = absurd (false≢true fits)
-  byte-same false (first e) (kept {nibble = x} three busy nib) fits f b d w n =
+  byte_same true none closed fits f b d w n = refl
+  byte_same false none closed fits f b d w n = absurd (false≢true (sym f))
+  byte_same eight (first e) (deaf three busy) fits f b d w n = absurd (false≢true (sym b))
+  byte_same true (first e) (kept three busy nib) fits f b d w n = absurd (false≢true fits)
+  byte_same false (first e) (kept {nibble = x} three busy nib) fits f b d w n =
       let r = rs_of e.bytes in
       let v = rw_of e.bytes in
       let j = equal_bits v (rw_of log) (or_right (not (beq r (rs_of log))) (not (beq v (rw_of log))) d) in
@@ -218,7 +218,7 @@ module _ (p : Panel) (log : List ℕ) where
         pick (rs_of log || rw_of log) eight (width_by (byte_by o (entry n)) eight) ≡
         (pick (rs_of log) (pick (rw_of log) (passed p.sheet) (written (byte_of p log) p.sheet)) (obeyed (byte_of p log) p.sheet)).registers.eight
     same n c a b =
-        step n (rs_of log) (rw_of log) b (λ w. byte-same eight o h (parts p c.paired.heard.sound).half a c.minded c.paired.whole w n)
+        step n (rs_of log) (rw_of log) b (λ w. byte_same eight o h (parts p c.paired.heard.sound).half a c.minded c.paired.whole w n)
 
     by : (n : ℕ) → Case p log n → width_after eight o (entry n) ≡ (panel_for n p log).sheet.registers.eight
     by n (unsound a) = refl
@@ -242,7 +242,7 @@ all_decided (f ∷ fs) p o h l d =
     let eight = p.sheet.registers.eight in (
       decided p f o h (whole p l.sound),
       subst (λ b. AllDecided b (open_after eight o e) (noted_from (panel_after p f) fs)) (sym (width p f o h))
-          (all_decided fs (panel_after p f) (open_after eight o e) (agrees p f o h) (record-lasts p f d.0 l) d.1),
+          (all_decided fs (panel_after p f) (open_after eight o e) (agrees p f o h) (record_lasts p f d.0 l) d.1),
     )
 
 -- every log from a fresh panel

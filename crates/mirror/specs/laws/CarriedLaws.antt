@@ -13,17 +13,17 @@ use Rattle.mirror.specs.laws.TableCase.{answer_panel}
 use Rattle.mirror.specs.declared.panel.Panel.{Panel}
 
 module _ (p : Panel) (log : List ℕ) where
-  sheet-after : carried_out (answer_to p log) ≡ true → (panel_after p log).sheet ≡ sheet_for p log
-  sheet-after o = ap (λ (q : Panel). q.sheet) (answer_panel p log) ∙ by o
+  sheet_after : carried_out (answer_to p log) ≡ true → (panel_after p log).sheet ≡ sheet_for p log
+  sheet_after o = ap (λ (q : Panel). q.sheet) (answer_panel p log) ∙ by o
     where
       by : carried_out (answer_to p log) ≡ true → (panel_for (answer_to p log) p log).sheet ≡ sheet_for p log
       by e = rw e
 
   -- by what was carried out: a data read, a data write, an instruction
-  pub carried-sheet : {rs reads : Bool} → CarriedOut p log rs reads →
+  pub carried_sheet : {rs reads : Bool} → CarriedOut p log rs reads →
       (panel_after p log).sheet ≡ pick rs (pick reads (passed p.sheet) (written (byte_of p log) p.sheet)) (obeyed (byte_of p log) p.sheet)
-  carried-sheet c = sheet-after c.out ∙ rw (c.transfer, c.rs_is, c.reads_is)
+  carried_sheet c = sheet_after c.out ∙ rw (c.transfer, c.rs_is, c.reads_is)
 
   -- a reset
-  pub reset-sheet : carried_out (answer_to p log) ≡ true → is_reset log ≡ true → (panel_after p log).sheet ≡ fresh_sheet p.sheet.registers.chip
-  reset-sheet o e = sheet-after o ∙ rw e
+  pub reset_sheet : carried_out (answer_to p log) ≡ true → is_reset log ≡ true → (panel_after p log).sheet ≡ fresh_sheet p.sheet.registers.chip
+  reset_sheet o e = sheet_after o ∙ rw e

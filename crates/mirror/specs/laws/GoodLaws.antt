@@ -15,7 +15,7 @@ use Rattle.mirror.specs.Case.{Acts, Case}
 use Rattle.mirror.specs.Case.Case.{unsound, cut, bad, back, reset, torn, ignored, nothing, held, status, doubtful, taken}
 use Rattle.mirror.specs.Answers.{answer_to, panel_after}
 use Rattle.mirror.specs.Good.{CarriedOut, Instructed, Remembered, DataRead, read_there, ReadAnswered, GoodOrDoubtful}
-use Rattle.mirror.specs.laws.CarriedLaws.{carried-sheet, reset-sheet}
+use Rattle.mirror.specs.laws.CarriedLaws.{carried_sheet, reset_sheet}
 use Rattle.mirror.specs.laws.RecordKeeps.{not_both, untaken_keeps}
 use Rattle.mirror.specs.laws.TableLaws.{tabled}
 use Rattle.mirror.specs.laws.TableCase.{case, answer_case, answer_panel, answer_number}
@@ -23,13 +23,13 @@ use Rattle.mirror.specs.declared.panel.Panel.{Panel}
 
 module _ (p : Panel) (log : List ℕ) where
   -- by what was carried out
-  carried-good : {rs reads : Bool} → CarriedOut p log rs reads →
+  carried_good : {rs reads : Bool} → CarriedOut p log rs reads →
       is_good (panel_after p log) ≡ (pick rs (pick reads (passed p.sheet) (written (byte_of p log) p.sheet)) (obeyed (byte_of p log) p.sheet)).registers.good
-  carried-good c = ap (λ (s : Sheet). s.registers.good) (carried-sheet p log c)
+  carried_good c = ap (λ (s : Sheet). s.registers.good) (carried_sheet p log c)
 
   -- an instruction that is carried out is not 00h
-  some-code : Instructed p log → 1 ≤ byte_of p log
-  some-code c = by (answer_case p log) c.out
+  some_code : Instructed p log → 1 ≤ byte_of p log
+  some_code c = by (answer_case p log) c.out
     where
       some : is_first p ≡ false → is_none p log ≡ false → 1 ≤ byte_of p log
       some f e =
@@ -53,23 +53,23 @@ module _ (p : Panel) (log : List ℕ) where
   remembered : Remembered p log
   remembered =
       record {
-        address_set = λ c l. carried-good c ∙ set_good (byte_of p log) p.sheet l;
-        cursor_shift = λ c l h. carried-good c ∙ move_good (byte_of p log) p.sheet l h;
-        read = λ c. carried-good c ∙ read_good p.sheet;
+        address_set = λ c l. carried_good c ∙ set_good (byte_of p log) p.sheet l;
+        cursor_shift = λ c l h. carried_good c ∙ move_good (byte_of p log) p.sheet l h;
+        read = λ c. carried_good c ∙ read_good p.sheet;
         fresh = λ chip r l s. refl;
-        reset = λ o e. ap (λ (s : Sheet). s.registers.good) (reset-sheet p log o e);
-        display_shift = λ c l h. carried-good c ∙ shift_leaves (byte_of p log) p.sheet l h;
+        reset = λ o e. ap (λ (s : Sheet). s.registers.good) (reset_sheet p log o e);
+        display_shift = λ c l h. carried_good c ∙ shift_leaves (byte_of p log) p.sheet l h;
         not_carried_out = λ o. ap is_good (untaken_keeps p log o);
-        other_low = λ c h. carried-good c ∙ low_doubtful (byte_of p log) p.sheet (some-code c) h;
-        other_high = λ c l h. carried-good c ∙ function_doubtful (byte_of p log) p.sheet l h;
-        write = λ c. carried-good c ∙ write_doubtful (byte_of p log) p.sheet;
+        other_low = λ c h. carried_good c ∙ low_doubtful (byte_of p log) p.sheet (some_code c) h;
+        other_high = λ c l h. carried_good c ∙ function_doubtful (byte_of p log) p.sheet l h;
+        write = λ c. carried_good c ∙ write_doubtful (byte_of p log) p.sheet;
       }
 
   -- a first half comes where none waits
-  none-waits : (eight waiting : Bool) → (not eight && not waiting) ≡ true → waiting ≡ false
-  none-waits true waiting e = absurd (false≢true e)
-  none-waits false true e = absurd (false≢true e)
-  none-waits false false e = refl
+  none_waits : (eight waiting : Bool) → (not eight && not waiting) ≡ true → waiting ≡ false
+  none_waits true waiting e = absurd (false≢true e)
+  none_waits false true e = absurd (false≢true e)
+  none_waits false false e = refl
 
   all_three : (a b c : Bool) → (a && b && not c) ≡ true → (a ≡ true) × (b ≡ true) × (c ≡ false)
   all_three true true true e = absurd (false≢true e)
@@ -92,9 +92,9 @@ module _ (p : Panel) (log : List ℕ) where
   only (taken h a b d) e = absurd (omega (arith, e))
 
   -- the number where neither 10, 8, 6, 5, a reset, 4, 3, 7, 1 nor 2 is due
-  last-number : (s u b k r t i n f c d : Bool) → s ≡ true → u ≡ false → b ≡ false → k ≡ false → r ≡ false → t ≡ false → i ≡ false → n ≡ false → f ≡ false → c ≡ false →
+  last_number : (s u b k r t i n f c d : Bool) → s ≡ true → u ≡ false → b ≡ false → k ≡ false → r ≡ false → t ≡ false → i ≡ false → n ≡ false → f ≡ false → c ≡ false →
       pick (not s) 10 (pick u 8 (pick b 6 (pick k 5 (pick r 0 (pick t 4 (pick i 3 (pick n 7 (pick f 1 (pick c 2 (pick d 11 0)))))))))) ≡ pick {A = ℕ} d 11 0
-  last-number s u b k r t i n f c d hs hu hb hk hr ht hi hn hf hc = rw (hs, hu, hb, hk, hr, ht, hi, hn, hf, hc)
+  last_number s u b k r t i n f c d hs hu hb hk hr ht hi hn hf hc = rw (hs, hu, hb, hk, hr, ht, hi, hn, hf, hc)
 
   turned : (good : Bool) → pick {A = ℕ} (not good) 11 0 ≡ pick good 0 11
   turned true = refl
@@ -106,16 +106,16 @@ module _ (p : Panel) (log : List ℕ) where
       let source = pick state shown (pick good here 0) in
       pick (transfer && reads) (pick waiting nibble (pick first (high source) source)) 0
 
-  zero-by : (transfer reads first : Bool) (nibble shown here : ℕ) → byte_by transfer reads false first false false nibble shown here ≡ 0
-  zero-by true true true nibble shown here = refl
-  zero-by true true false nibble shown here = refl
-  zero-by true false first nibble shown here = refl
-  zero-by false reads first nibble shown here = refl
+  zero_by : (transfer reads first : Bool) (nibble shown here : ℕ) → byte_by transfer reads false first false false nibble shown here ≡ 0
+  zero_by true true true nibble shown here = refl
+  zero_by true true false nibble shown here = refl
+  zero_by true false first nibble shown here = refl
+  zero_by false reads first nibble shown here = refl
 
   -- the number and the byte of a data read
   module _ (r : DataRead log) where
-    no-status : is_status log ≡ false
-    no-status = ap (λ b. b && not (rs_of log)) r.reads_is ∙ ap not r.rs_is
+    no_status : is_status log ≡ false
+    no_status = ap (λ b. b && not (rs_of log)) r.reads_is ∙ ap not r.rs_is
 
     doubts : is_doubtful p log ≡ not (is_good p)
     doubts = ap (λ b. b && rw_of log && not (is_good p)) r.rs_is ∙ ap (λ b. b && not (is_good p)) r.reads_is
@@ -124,8 +124,8 @@ module _ (p : Panel) (log : List ℕ) where
     number_of a f =
         let h = a.paired.heard in
         answer_number p log
-        ∙ last-number (sound_panel p) (cut_at log) (bad_at log) (is_back p log) (is_reset log) (tears p log) (ignores p log) (is_none p log) (is_first p) (is_status log) (is_doubtful p log)
-        h.sound h.uncut h.good h.on_time a.paired.transfer a.paired.whole a.minded a.some f no-status
+        ∙ last_number (sound_panel p) (cut_at log) (bad_at log) (is_back p log) (is_reset log) (tears p log) (ignores p log) (is_none p log) (is_first p) (is_status log) (is_doubtful p log)
+        h.sound h.uncut h.good h.on_time a.paired.transfer a.paired.whole a.minded a.some f no_status
         ∙ ap (λ b. pick {A = ℕ} b 11 0) doubts ∙ turned (is_good p)
 
     -- the byte that document 01 gives, where it is good
@@ -134,49 +134,49 @@ module _ (p : Panel) (log : List ℕ) where
     there g =
         ap (λ b. byte_by b (rw_of log) (waits p.half) (is_first p) (is_status log) (is_good p) (nibble_of p.half * 16) (status_of (time_of log) p) (here_of p)) r.transfer
         ∙ ap (λ b. byte_by true b (waits p.half) (is_first p) (is_status log) (is_good p) (nibble_of p.half * 16) (status_of (time_of log) p) (here_of p)) r.reads_is
-        ∙ ap (λ b. byte_by true true (waits p.half) (is_first p) b (is_good p) (nibble_of p.half * 16) (status_of (time_of log) p) (here_of p)) no-status
+        ∙ ap (λ b. byte_by true true (waits p.half) (is_first p) b (is_good p) (nibble_of p.half * 16) (status_of (time_of log) p) (here_of p)) no_status
         ∙ ap (λ b. byte_by true true (waits p.half) (is_first p) false b (nibble_of p.half * 16) (status_of (time_of log) p) (here_of p)) g
 
-    zero-byte : is_good p ≡ false → {n : ℕ} → Case p log n → byte_for n p log ≡ 0
-    zero-byte g (unsound a) = refl
-    zero-byte g (cut a b) = refl
-    zero-byte g (bad a b c) = refl
-    zero-byte g (back a b c d) = refl
-    zero-byte g (reset h a) = absurd (not_both log r.transfer a)
-    zero-byte g (torn h a b) = refl
-    zero-byte g (ignored h a) = refl
-    zero-byte g (nothing h a b) = refl
-    zero-byte g (held h a) =
-        let w = none-waits p.sheet.registers.eight (waits p.half) a in
+    zero_byte : is_good p ≡ false → {n : ℕ} → Case p log n → byte_for n p log ≡ 0
+    zero_byte g (unsound a) = refl
+    zero_byte g (cut a b) = refl
+    zero_byte g (bad a b c) = refl
+    zero_byte g (back a b c d) = refl
+    zero_byte g (reset h a) = absurd (not_both log r.transfer a)
+    zero_byte g (torn h a b) = refl
+    zero_byte g (ignored h a) = refl
+    zero_byte g (nothing h a b) = refl
+    zero_byte g (held h a) =
+        let w = none_waits p.sheet.registers.eight (waits p.half) a in
         ap (λ b. byte_by (is_transfer log) (rw_of log) b (is_first p) (is_status log) (is_good p) (nibble_of p.half * 16) (status_of (time_of log) p) (here_of p)) w
-        ∙ ap (λ b. byte_by (is_transfer log) (rw_of log) false (is_first p) b (is_good p) (nibble_of p.half * 16) (status_of (time_of log) p) (here_of p)) no-status
+        ∙ ap (λ b. byte_by (is_transfer log) (rw_of log) false (is_first p) b (is_good p) (nibble_of p.half * 16) (status_of (time_of log) p) (here_of p)) no_status
         ∙ ap (λ b. byte_by (is_transfer log) (rw_of log) false (is_first p) false b (nibble_of p.half * 16) (status_of (time_of log) p) (here_of p)) g
-        ∙ zero-by (is_transfer log) (rw_of log) (is_first p) (nibble_of p.half * 16) (status_of (time_of log) p) (here_of p)
-    zero-byte g (status h a b) = absurd (false≢true (sym no-status ∙ b))
-    zero-byte g (doubtful h a b d) = refl
-    zero-byte g (taken h a b d) = absurd (false≢true (sym d ∙ doubts ∙ ap not g))
+        ∙ zero_by (is_transfer log) (rw_of log) (is_first p) (nibble_of p.half * 16) (status_of (time_of log) p) (here_of p)
+    zero_byte g (status h a b) = absurd (false≢true (sym no_status ∙ b))
+    zero_byte g (doubtful h a b d) = refl
+    zero_byte g (taken h a b d) = absurd (false≢true (sym d ∙ doubts ∙ ap not g))
 
-    good-byte : is_good p ≡ true → {n : ℕ} → Case p log n → (eqb n 0 || eqb n 1) ≡ true → byte_for n p log ≡ read_there p
-    good-byte g (unsound a) e = absurd (false≢true e)
-    good-byte g (cut a b) e = absurd (false≢true e)
-    good-byte g (bad a b c) e = absurd (false≢true e)
-    good-byte g (back a b c d) e = absurd (false≢true e)
-    good-byte g (reset h a) e = absurd (not_both log r.transfer a)
-    good-byte g (torn h a b) e = absurd (false≢true e)
-    good-byte g (ignored h a) e = absurd (false≢true e)
-    good-byte g (nothing h a b) e = absurd (false≢true e)
-    good-byte g (held h a) e = there g
-    good-byte g (status h a b) e = absurd (false≢true e)
-    good-byte g (doubtful h a b d) e = absurd (false≢true e)
-    good-byte g (taken h a b d) e = there g
+    good_byte : is_good p ≡ true → {n : ℕ} → Case p log n → (eqb n 0 || eqb n 1) ≡ true → byte_for n p log ≡ read_there p
+    good_byte g (unsound a) e = absurd (false≢true e)
+    good_byte g (cut a b) e = absurd (false≢true e)
+    good_byte g (bad a b c) e = absurd (false≢true e)
+    good_byte g (back a b c d) e = absurd (false≢true e)
+    good_byte g (reset h a) e = absurd (not_both log r.transfer a)
+    good_byte g (torn h a b) e = absurd (false≢true e)
+    good_byte g (ignored h a) e = absurd (false≢true e)
+    good_byte g (nothing h a b) e = absurd (false≢true e)
+    good_byte g (held h a) e = there g
+    good_byte g (status h a b) e = absurd (false≢true e)
+    good_byte g (doubtful h a b d) e = absurd (false≢true e)
+    good_byte g (taken h a b d) e = there g
 
   answered : ReadAnswered p log
   answered =
       record {
         number = number_of;
         only = only (answer_case p log);
-        zero = λ r g. (tabled p log).byte ∙ zero-byte r g (case p log);
-        byte = λ r g e. (tabled p log).byte ∙ good-byte r g (case p log) (ap (λ n. eqb n 0 || eqb n 1) (sym (answer_number p log)) ∙ e);
+        zero = λ r g. (tabled p log).byte ∙ zero_byte r g (case p log);
+        byte = λ r g e. (tabled p log).byte ∙ good_byte r g (case p log) (ap (λ n. eqb n 0 || eqb n 1) (sym (answer_number p log)) ∙ e);
       }
 
 -- THE CLAUSES OF THE WISH, of every panel and record

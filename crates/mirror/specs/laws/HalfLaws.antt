@@ -51,11 +51,11 @@ module _ (p : Panel) (log : List ℕ) (mark : p.half ≡ Ignored (rs_of log) (rw
       ∙ ap (λ b. b || not (beq (rw_of log) (rw_of log))) (same_bit (rs_of log))
       ∙ same_bit (rw_of log)
 
-  deaf-pair : ignores p log ≡ true
-  deaf-pair = ap (λ h. busy_at h (not (is_status log) && not (free (time_of log) p))) mark
+  deaf_pair : ignores p log ≡ true
+  deaf_pair = ap (λ h. busy_at h (not (is_status log) && not (free (time_of log) p))) mark
 
-  marked-ignored : clocked (answer_to p log) ≡ true → answer_to p log ≡ 3
-  marked-ignored = by (answer_case p log) where
+  marked_ignored : clocked (answer_to p log) ≡ true → answer_to p log ≡ 3
+  marked_ignored = by (answer_case p log) where
     by : {n : ℕ} → Case p log n → clocked n ≡ true → n ≡ 3
     by (unsound a) e = absurd (false≢true e)
     by (cut a b) e = absurd (false≢true e)
@@ -64,11 +64,11 @@ module _ (p : Panel) (log : List ℕ) (mark : p.half ≡ Ignored (rs_of log) (rw
     by (reset h a) e = absurd (not_both log kind a)
     by (torn h a b) e = absurd (false≢true (sym whole_pair ∙ b))
     by (ignored h a) e = refl
-    by (nothing h a b) e = absurd (false≢true (sym a ∙ deaf-pair))
-    by (held h a) e = absurd (false≢true (sym h.minded ∙ deaf-pair))
-    by (status h a b) e = absurd (false≢true (sym h.minded ∙ deaf-pair))
-    by (doubtful h a b d) e = absurd (false≢true (sym h.minded ∙ deaf-pair))
-    by (taken h a b d) e = absurd (false≢true (sym h.minded ∙ deaf-pair))
+    by (nothing h a b) e = absurd (false≢true (sym a ∙ deaf_pair))
+    by (held h a) e = absurd (false≢true (sym h.minded ∙ deaf_pair))
+    by (status h a b) e = absurd (false≢true (sym h.minded ∙ deaf_pair))
+    by (doubtful h a b d) e = absurd (false≢true (sym h.minded ∙ deaf_pair))
+    by (taken h a b d) e = absurd (false≢true (sym h.minded ∙ deaf_pair))
 
 -- a pair begun while busy is ignored in both halves, whenever the second comes, and the second starts no new pair (slip 1)
 pub ignored_pair : (p : Panel) (a : List ℕ) (between : List (List ℕ)) (b : List ℕ) →
@@ -78,7 +78,7 @@ pub ignored_pair : (p : Panel) (a : List ℕ) (between : List (List ℕ)) (b : L
     is_transfer b ≡ true → rs_of b ≡ rs_of a → rw_of b ≡ rw_of a → clocked (answer_to r b) ≡ true →
     (answer_to r b ≡ 3) × ((panel_after r b).half ≡ Empty)
 ignored_pair p a between b first three unheard kind rs reads heard =
-    (marked-ignored r b mark kind heard, second_clears r b (ap waits mark) heard)
+    (marked_ignored r b mark kind heard, second_clears r b (ap waits mark) heard)
   where
     r : Panel
     r = panel_after_all (panel_after p a) between

@@ -7,9 +7,9 @@ use Rattle.laws.specs.Pick.{pick}
 use Rattle.framing.specs.Frame.{frame_of, is_reset, cut_at, bad_at, wants_more}
 use Rattle.framing.specs.Frames.{Pieces, frames, tail}
 use Rattle.framing.specs.laws.CutLaws.{none_want, wants_cut}
-use Rattle.framing.specs.laws.FramesLaws.{frames_cut, tail_cut, record-first}
+use Rattle.framing.specs.laws.FramesLaws.{frames_cut, tail_cut, record_first}
 use Rattle.framing.specs.Carry.{carried_of, reach, more, filled}
-use Rattle.framing.specs.laws.CarryLaws.{left, wanting_wants, fill-front, more_left}
+use Rattle.framing.specs.laws.CarryLaws.{left, wanting_wants, fill_front, more_left}
 use Rattle.mirror.specs.Answer.{count_places, Paper}
 use Rattle.mirror.specs.Panel.{sound_panel}
 use Rattle.mirror.specs.Table.{is_back, transfer_for, number_for, byte_for, Tabled, row_for}
@@ -20,7 +20,7 @@ use Rattle.mirror.specs.Run.{started, counted, onward}
 use Rattle.mirror.specs.laws.RunLaws.{uncut_used, cut_used}
 use Rattle.mirror.specs.Stream.{waiting_bytes, rested_of, feed_of, next_of, run_as, run_of}
 use Rattle.mirror.specs.engine.Reading.{stopped_of}
-use Rattle.mirror.specs.laws.StreamLaws.{Fed, feed_open, feed-append}
+use Rattle.mirror.specs.laws.StreamLaws.{Fed, feed_open, feed_append}
 use Rattle.mirror.specs.declared.record.Recorded.{Recorded}
 use Rattle.mirror.specs.declared.stream.Stream.{Stream}
 use Rattle.mirror.specs.declared.panel.Panel.{Panel}
@@ -117,7 +117,7 @@ next_feeds st part g =
         ap (rested_of st (onward st.totals (frames v))) (sym (tail_cut v u))
     by false u =
         let v = filled (waiting_bytes st) part in
-        let p = ap (λ x. x) (record-first [] (fill-front (waiting_bytes st) part (wanting_wants (carried_of st.carry)) u)) in
+        let p = ap (λ x. x) (record_first [] (fill_front (waiting_bytes st) part (wanting_wants (carried_of st.carry)) u)) in
         let n = wants_cut [] none_want in
         sym
         (ap (λ x. rested_of st (onward st.totals (frames x)) (tail x)) (sym (append-nil v)) ∙
@@ -129,7 +129,7 @@ next_feeds st part g =
 pub next_on : (st : Stream) (part : List ℕ) → Going st → feed_of (next_of st part).stream (left (waiting_bytes st) part) ≡ feed_of st part
 next_on st part g =
     let c = waiting_bytes st in
-    ap (λ x. feed_of x (left c part)) (next_feeds st part g) ∙ feed-append st (more c part) (left c part) ∙ ap (feed_of st) (more_left c part)
+    ap (λ x. feed_of x (left c part)) (next_feeds st part g) ∙ feed_append st (more c part) (left c part) ∙ ap (feed_of st) (more_left c part)
 
 -- no more than the part is taken
 pub next_within : (st : Stream) (part : List ℕ) → (next_of st part).taken ≤ length part

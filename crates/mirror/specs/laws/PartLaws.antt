@@ -74,17 +74,17 @@ up_all (k ∷ part) = ap (λ r. k ∷ r) (up_all part)
 
 -- one more of an answer in the part is one more of all
 module _ (part : List ℕ) (answer : Answer) where
-  added-bump : (counts : List ℕ) → length part ≡ count_places → tallied (added_to counts part) answer ≡ added_to counts (bumped part answer)
+  added_bump : (counts : List ℕ) → length part ≡ count_places → tallied (added_to counts part) answer ≡ added_to counts (bumped part answer)
   unfolding tallied bumped turns
-  added-bump counts l = by (ltb (place_of (number_of answer)) count_places) refl
+  added_bump counts l = by (ltb (place_of (number_of answer)) count_places) refl
     where
       by : (b : Bool) → ltb (place_of (number_of answer)) count_places ≡ b → pick b (set (added_to counts part) (place_of (number_of answer)) (raised (get_or (added_to counts part) (place_of (number_of answer)) 0))) (added_to counts part) ≡ added_to counts (pick b (set part (place_of (number_of answer)) (get_or part (place_of (number_of answer)) 0 + 1)) part)
       by true e = at_place counts part (place_of (number_of answer)) 1 (omega (arith, ltb-true (place_of (number_of answer)) count_places e, l))
       by false e = refl
 
-  length-bump : length (bumped part answer) ≡ length part
+  length_bump : length (bumped part answer) ≡ length part
   unfolding bumped
-  length-bump = by (ltb (place_of (number_of answer)) count_places)
+  length_bump = by (ltb (place_of (number_of answer)) count_places)
     where
       by : (b : Bool) → length (pick b (set part (place_of (number_of answer)) (get_or part (place_of (number_of answer)) 0 + 1)) part) ≡ length part
       by true = length-set part (place_of (number_of answer)) (get_or part (place_of (number_of answer)) 0 + 1)
@@ -132,21 +132,21 @@ counting_starts log start =
     }
 
 module _ {log : List ℕ} {start : Totals} {p : Panel} {part : List ℕ} {records at : ℕ} (i : Counting log start p part records at) (r : Recorded) (e : r ≡ answered (frame_of (drop at log)) p) where
-  pub counting-ends : r.used ≡ 0 → record { totals = record { panel = r.panel; counts = added_to start.counts part; records = raised_by records start.records }; at = at } ≡ consumed_of start log
-  counting-ends z = reading_ends i.reading r e z
+  pub counting_ends : r.used ≡ 0 → record { totals = record { panel = r.panel; counts = added_to start.counts part; records = raised_by records start.records }; at = at } ≡ consumed_of start log
+  counting_ends z = reading_ends i.reading r e z
 
   module _ (z : r.used ≡ 0 → ⊥) where
-    pub counting-within : at + r.used ≤ length log
-    counting-within = (reading_goes i.reading r e z).within
+    pub counting_within : at + r.used ≤ length log
+    counting_within = (reading_goes i.reading r e z).within
 
-    pub counting-room : length log ≤ most_count → Room part r.answer
-    counting-room h = omega (arith, i.few (place_of (number_of r.answer)), counting-within, h, z)
+    pub counting_room : length log ≤ most_count → Room part r.answer
+    counting_room h = omega (arith, i.few (place_of (number_of r.answer)), counting_within, h, z)
 
-    pub counting-goes : Counting log start r.panel (bumped part r.answer) (records + 1) (at + r.used)
-    counting-goes =
+    pub counting_goes : Counting log start r.panel (bumped part r.answer) (records + 1) (at + r.used)
+    counting_goes =
         record {
-          reading = rw (← added-bump part r.answer start.counts i.nine, one_more raised records start.records) (reading_goes i.reading r e z);
-          nine = length-bump part r.answer ∙ i.nine;
+          reading = rw (← added_bump part r.answer start.counts i.nine, one_more raised records start.records) (reading_goes i.reading r e z);
+          nine = length_bump part r.answer ∙ i.nine;
           few = bump_few part r.answer at r.used (omega (arith, z)) i.few;
           numbered = omega (arith, i.numbered, z);
         }

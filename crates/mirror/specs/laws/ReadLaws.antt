@@ -35,11 +35,11 @@ pub begins_one : (p : Panel) (records : ℕ) (r s : Reading) → Begins p record
 begins_one p records r s b e counts = b counts ∙ sym (e counts)
 
 module _ (o : Reading) (log d p c : List ℕ) (r s : Reading) (d' p' c' d'' p'' c'' : List ℕ) (a : Steps o log d p c r d' p' c') (b : Steps o log d p c s d'' p'' c'') where
-  pub steps-answer : recorded_of r.times r.live d' p' ≡ recorded_of s.times s.live d'' p''
-  steps-answer = a.answer ∙ sym b.answer
+  pub steps_answer : recorded_of r.times r.live d' p' ≡ recorded_of s.times s.live d'' p''
+  steps_answer = a.answer ∙ sym b.answer
 
-  pub steps-totals : totals_read r d' p' c' ≡ totals_read s d'' p'' c''
-  steps-totals = a.totals ∙ sym b.totals
+  pub steps_totals : totals_read r d' p' c' ≡ totals_read s d'' p'' c''
+  steps_totals = a.totals ∙ sym b.totals
 
 module _ (times : Times) (k : Live) (d p : List ℕ) (t : Totals) (a : Recorded) (e : recorded_of times k d p ≡ a) where
   -- a record that is cut is not counted
@@ -51,8 +51,8 @@ module _ (times : Times) (k : Live) (d p : List ℕ) (t : Totals) (a : Recorded)
     by b h = rw h
 
   -- one that is whole is
-  pub step-counted : eqb k.used 0 ≡ false → totals_of times k d p (tallied t.counts k.answer) (raised t.records) ≡ stepped t a
-  step-counted z = by (eqb k.used 0) z ∙ ap (stepped t) e where
+  pub step_counted : eqb k.used 0 ≡ false → totals_of times k d p (tallied t.counts k.answer) (raised t.records) ≡ stepped t a
+  step_counted z = by (eqb k.used 0) z ∙ ap (stepped t) e where
     by : (b : Bool) → b ≡ false →
         totals_of times k d p (tallied t.counts k.answer) (raised t.records) ≡
         pick b (record { panel = panel_of times k d p; counts = t.counts; records = t.records }) (counted t (recorded_of times k d p))
@@ -60,13 +60,13 @@ module _ (times : Times) (k : Live) (d p : List ℕ) (t : Totals) (a : Recorded)
 
 -- what was read, with a tail unread: it rests where the panel is sound, and is refused where it is not
 module _ (st : Stream) (t : Totals) (rest : List ℕ) where
-  pub read-rests : sound_panel t.panel ≡ true → rested_of st t rest ≡ read_of st t rest
-  read-rests h = by (sound_panel t.panel) h where
+  pub read_rests : sound_panel t.panel ≡ true → rested_of st t rest ≡ read_of st t rest
+  read_rests h = by (sound_panel t.panel) h where
     by : (b : Bool) → b ≡ true → rested_of st t rest ≡ pick b (rested_of st t rest) (start_of t.panel)
     by b h = rw h
 
-  pub read-refused : sound_panel t.panel ≡ false → start_of t.panel ≡ read_of st t rest
-  read-refused h = by (sound_panel t.panel) h where
+  pub read_refused : sound_panel t.panel ≡ false → start_of t.panel ≡ read_of st t rest
+  read_refused h = by (sound_panel t.panel) h where
     by : (b : Bool) → b ≡ false → start_of t.panel ≡ pick b (rested_of st t rest) (start_of t.panel)
     by b h = rw h
 
@@ -92,29 +92,29 @@ module _ (st : Stream) (log : List ℕ) (w : waiting_bytes st ≡ []) (u : cut_a
   reaches = ap reach (sym (append-nil log)) ∙ front_reach [] front
 
   -- by its own bytes
-  pub own-bytes : filled (waiting_bytes st) log ≡ take (size_of (frame_of log)) log
-  own-bytes =
+  pub own_bytes : filled (waiting_bytes st) log ≡ take (size_of (frame_of log)) log
+  own_bytes =
       let n : reach log - 0 ≡ size_of (frame_of log) = omega (arith, reaches) in
       ap (λ c. filled c log) w ∙ ap (λ m. take m log) n
 
-  own-length : size_of (frame_of log) ≡ length (more (waiting_bytes st) log)
-  own-length =
+  own_length : size_of (frame_of log) ≡ length (more (waiting_bytes st) log)
+  own_length =
       let n : reach log - 0 ≡ size_of (frame_of log) = omega (arith, reaches) in
       let l : length (take (size_of (frame_of log)) log) ≡ size_of (frame_of log) = omega (arith, length-take (size_of (frame_of log)) log, size_within log) in
       sym l ∙ ap (λ m. length (take m log)) (sym n) ∙ ap (λ c. length (more c log)) (sym w)
 
-  own-fed : Fed st log (take (size_of (frame_of log)) log) (size_of (frame_of log))
-  own-fed = record { carries = sym own-bytes; takes = own-length; within = size_within log }
+  own_fed : Fed st log (take (size_of (frame_of log)) log) (size_of (frame_of log))
+  own_fed = record { carries = sym own_bytes; takes = own_length; within = size_within log }
 
-  pub read-used : (p : Panel) → (answered (frame_of log) p).used ≡ 0 → ⊥
-  read-used p z = false≢true (sym u ∙ cut_used log p z)
+  pub read_used : (p : Panel) → (answered (frame_of log) p).used ≡ 0 → ⊥
+  read_used p z = false≢true (sym u ∙ cut_used log p z)
 
-  pub next-read : Going st →
+  pub next_read : Going st →
       let r = answered (frame_of log) st.totals.panel in
       record { stream = rested_of st (counted st.totals r) []; taken = size_of (frame_of log); reply = Answered r.answer r.byte } ≡ next_of st log
-  next-read g =
-      next_goes own-fed g (answered (frame_of log) st.totals.panel) (ap (λ f. answered f st.totals.panel) (sym (frame_take front)))
-      (read-used st.totals.panel)
+  next_read g =
+      next_goes own_fed g (answered (frame_of log) st.totals.panel) (ap (λ f. answered f st.totals.panel) (sym (frame_take front)))
+      (read_used st.totals.panel)
 
 -- a record that has bytes is counted
 pub stepped_counted : (t : Totals) (r : Recorded) → (r.used ≡ 0 → ⊥) → stepped t r ≡ counted t r

@@ -63,16 +63,16 @@ good_time log g = by (late_time log) refl where
   by false e = leb-false time_end (time_of log) e
 
 module _ (p : Panel) (log : List ℕ) (small : data_of log < 256) (h : Lasts p) where
-  nibble-fits : (b : Bool) → pick b (source_of p log % 16) (data_of log / 16) < 16
-  nibble-fits true = mod-lt (source_of p log) (omega arith)
-  nibble-fits false = omega arith
+  nibble_fits : (b : Bool) → pick b (source_of p log % 16) (data_of log / 16) < 16
+  nibble_fits true = mod-lt (source_of p log) (omega arith)
+  nibble_fits false = omega arith
 
-  sheet-sound : (a b c : Bool) →
+  sheet_sound : (a b c : Bool) →
       steps.Sound (pick a (fresh_sheet p.sheet.registers.chip) (pick b (pick c (passed p.sheet) (written (byte_of p log) p.sheet)) (obeyed (byte_of p log) p.sheet)))
-  sheet-sound true b c = steps.fresh_sound p.sheet.registers.chip h.sound.sheet.known
-  sheet-sound false true true = steps.passed_sound p.sheet h.sound.sheet
-  sheet-sound false true false = steps.written_sound (byte_of p log) p.sheet h.sound.sheet
-  sheet-sound false false c = steps.obeyed_sound (byte_of p log) p.sheet h.sound.sheet
+  sheet_sound true b c = steps.fresh_sound p.sheet.registers.chip h.sound.sheet.known
+  sheet_sound false true true = steps.passed_sound p.sheet h.sound.sheet
+  sheet_sound false true false = steps.written_sound (byte_of p log) p.sheet h.sound.sheet
+  sheet_sound false false c = steps.obeyed_sound (byte_of p log) p.sheet h.sound.sheet
 
   span_fits : (a b : Bool) → pick a p.times.reset (pick b p.times.long p.times.short) ≤ 65535
   span_fits true b = h.times.reset
@@ -80,47 +80,47 @@ module _ (p : Panel) (log : List ℕ) (small : data_of log < 256) (h : Lasts p) 
   span_fits false false = h.times.short
 
   module _ (heard : Heard p log) where
-    holding-lasts : (half : Half) → half_fits p.sheet.registers.eight half ≡ true → Lasts (holding (time_of log) half p)
-    holding-lasts half f =
+    holding_lasts : (half : Half) → half_fits p.sheet.registers.eight half ≡ true → Lasts (holding (time_of log) half p)
+    holding_lasts half f =
         let t = good_time log heard.good in
         record { sound = record { sheet = h.sound.sheet; half = f; last = t; busy = h.sound.busy }; times = h.times }
 
     -- no half waits after a Function Set to width 8, as after anything carried out
-    done-lasts : Lasts (done (time_of log) (sheet_for p log) (span_for p log) p)
-    done-lasts =
+    done_lasts : Lasts (done (time_of log) (sheet_for p log) (span_for p log) p)
+    done_lasts =
         let t = good_time log heard.good in
         let l = span_fits (is_reset log) (is_long p log) in
         record {
-          sound = record { sheet = sheet-sound (is_reset log) (rs_of log) (rw_of log); half = refl; last = t; busy = omega arith };
+          sound = record { sheet = sheet_sound (is_reset log) (rs_of log) (rw_of log); half = refl; last = t; busy = omega arith };
           times = h.times;
         }
 
-  row-lasts : (n : ℕ) → Case p log n → Lasts (panel_for n p log)
-  row-lasts n (unsound a) = h
-  row-lasts n (cut a b) = h
-  row-lasts n (bad a b c) = h
-  row-lasts n (back a b c d) = h
-  row-lasts n (reset c a) = done-lasts c
-  row-lasts n (torn c a b) = holding-lasts c Empty refl
-  row-lasts n (ignored c a) =
-      holding-lasts c.heard (ignored_half p log)
+  row_lasts : (n : ℕ) → Case p log n → Lasts (panel_for n p log)
+  row_lasts n (unsound a) = h
+  row_lasts n (cut a b) = h
+  row_lasts n (bad a b c) = h
+  row_lasts n (back a b c d) = h
+  row_lasts n (reset c a) = done_lasts c
+  row_lasts n (torn c a b) = holding_lasts c Empty refl
+  row_lasts n (ignored c a) =
+      holding_lasts c.heard (ignored_half p log)
       (ignored_fits p.sheet.registers.eight p.half (rs_of log) (rw_of log) (not (free (time_of log) p)) a)
-  row-lasts n (nothing c a b) = holding-lasts c.heard Empty refl
-  row-lasts n (held c a) =
+  row_lasts n (nothing c a b) = holding_lasts c.heard Empty refl
+  row_lasts n (held c a) =
       let nibble = pick (rw_of log) (source_of p log % 16) (data_of log / 16) in
-      holding-lasts c.paired.heard (held_half p log)
-      (held_fits p.sheet.registers.eight p.half (rs_of log) (rw_of log) nibble a (nibble-fits (rw_of log)))
-  row-lasts n (status c a b) = holding-lasts c.paired.heard Empty refl
-  row-lasts n (doubtful c a b d) = done-lasts c.paired.heard
-  row-lasts n (taken c a b d) = done-lasts c.paired.heard
+      holding_lasts c.paired.heard (held_half p log)
+      (held_fits p.sheet.registers.eight p.half (rs_of log) (rw_of log) nibble a (nibble_fits (rw_of log)))
+  row_lasts n (status c a b) = holding_lasts c.paired.heard Empty refl
+  row_lasts n (doubtful c a b d) = done_lasts c.paired.heard
+  row_lasts n (taken c a b d) = done_lasts c.paired.heard
 
 -- every answer leaves a sound panel sound, its busy end below 2^48 + 65,536 since a time is below 2^48
-pub record-lasts : (p : Panel) (log : List ℕ) → data_of log < 256 → Lasts p → Lasts (panel_after p log)
-record-lasts p log small h = each_row p log (λ n q. Lasts q) (row-lasts p log small h)
+pub record_lasts : (p : Panel) (log : List ℕ) → data_of log < 256 → Lasts p → Lasts (panel_after p log)
+record_lasts p log small h = each_row p log (λ n q. Lasts q) (row_lasts p log small h)
 
 -- in the words of the test that `record` makes
 pub fresh_sound : (chip reset long short : ℕ) → is_known chip ≡ true → sound_panel (fresh_panel chip reset long short) ≡ true
 fresh_sound chip r l s k = whole (fresh_panel chip r l s) (fresh_parts chip r l s k)
 
-pub record-sound : (p : Panel) (log : List ℕ) → data_of log < 256 → TimesFit p.times → sound_panel p ≡ true → sound_panel (panel_after p log) ≡ true
-record-sound p log small t e = whole (panel_after p log) (record-lasts p log small (record { sound = parts p e; times = t })).sound
+pub record_sound : (p : Panel) (log : List ℕ) → data_of log < 256 → TimesFit p.times → sound_panel p ≡ true → sound_panel (panel_after p log) ≡ true
+record_sound p log small t e = whole (panel_after p log) (record_lasts p log small (record { sound = parts p e; times = t })).sound

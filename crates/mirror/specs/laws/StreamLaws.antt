@@ -11,9 +11,9 @@ use Rattle.framing.specs.laws.CutLaws.{broken, cut_either, cut_one, none_want, b
 use Rattle.framing.specs.Frames.{Pieces, frames, tail, joined}
 use Rattle.framing.specs.laws.FrontLaws.{uncut_front}
 use Rattle.framing.specs.laws.FrameLaws.{cut_frame, frame_cut}
-use Rattle.framing.specs.laws.FramesLaws.{frames_cut, tail_cut, tail_next, joined_frames, tail_is_cut, pieces_append, pieces_broken, record-first}
+use Rattle.framing.specs.laws.FramesLaws.{frames_cut, tail_cut, tail_next, joined_frames, tail_is_cut, pieces_append, pieces_broken, record_first}
 use Rattle.framing.specs.Carry.{carried_of, carry_of, wanting_of, reach, topped_of, more, filled, filled_of, room}
-use Rattle.framing.specs.laws.CarryLaws.{left, carried, fill_carried, wanting_wants, fill-wants, fill-broken, fill_frame, fill-front, fill-whole}
+use Rattle.framing.specs.laws.CarryLaws.{left, carried, fill_carried, wanting_wants, fill_wants, fill_broken, fill_frame, fill_front, fill_whole}
 use Rattle.laws.specs.Held.{Held}
 use Rattle.framing.specs.Flaw.{flaw_of}
 use Rattle.framing.specs.declared.flaw.Flaw.{Flaw}
@@ -118,28 +118,28 @@ module _ (st : Stream) (part : List ℕ) (going : st.over ≡ false) where
   r = left c part
 
   -- where the carried record is still cut, nothing is answered
-  pub feed-cut : cut_at (filled (waiting_bytes st) part) ≡ true → rested_of st st.totals (filled (waiting_bytes st) part) ≡ feed_of st part
+  pub feed_cut : cut_at (filled (waiting_bytes st) part) ≡ true → rested_of st st.totals (filled (waiting_bytes st) part) ≡ feed_of st part
   unfolding onward
-  feed-cut u =
+  feed_cut u =
       let k = frame_cut (c ++ part) (sym (fill_frame c part) ∙ cut_frame v u) in
       same (wants_more v) refl ∙ ap (λ fs. rested_of st (onward st.totals fs) (c ++ part)) (sym (frames_cut (c ++ part) k)) ∙
       ap (rested_of st (onward st.totals (frames (c ++ part)))) (sym (tail_cut (c ++ part) k)) ∙ sym (feed_open st part going)
     where
       same : (b : Bool) → wants_more v ≡ b → rested_of st st.totals v ≡ rested_of st st.totals (c ++ part)
-      same true w = ap (λ m. rested_of st st.totals (c ++ m)) (fill-wants c part w)
+      same true w = ap (λ m. rested_of st st.totals (c ++ m)) (fill_wants c part w)
       same false w =
           rested_over st st.totals v w ∙
-          sym (rested_over st st.totals (c ++ part) (not_both (c ++ part) (fill-broken c part (cut_broken v u w))))
+          sym (rested_over st st.totals (c ++ part) (not_both (c ++ part) (fill_broken c part (cut_broken v u w))))
 
   -- where it is whole it is answered, and then what follows in the part
-  pub feed-whole : cut_at (filled (waiting_bytes st) part) ≡ false →
+  pub feed_whole : cut_at (filled (waiting_bytes st) part) ≡ false →
       rested_of st (onward (onward st.totals (frames (filled (waiting_bytes st) part))) (frames (left (waiting_bytes st) part))) (tail (left (waiting_bytes st) part)) ≡
       feed_of st part
   unfolding onward
-  feed-whole u =
+  feed_whole u =
       let w = wanting_wants (carried_of st.carry) in
-      let p = fill-whole c part w u in
-      let one : frames v ≡ v ∷ [] = ap frames (sym (append-nil v)) ∙ ap (λ (x : Pieces). x.records) (record-first [] (fill-front c part w u)) ∙
+      let p = fill_whole c part w u in
+      let one : frames v ≡ v ∷ [] = ap frames (sym (append-nil v)) ∙ ap (λ (x : Pieces). x.records) (record_first [] (fill_front c part w u)) ∙
       ap (λ fs. v ∷ fs) (frames_cut [] (wants_cut [] none_want)) in
       ap (λ fs. rested_of st (onward (onward st.totals fs) (frames r)) (tail r)) one ∙
       ap (λ (x : Pieces). rested_of st (onward st.totals x.records) x.rest) (sym p) ∙ sym (feed_open st part going)
@@ -168,15 +168,15 @@ module _ (st : Stream) (a b : List ℕ) where
   at_once o =
       ap (λ x. rested_of st (onward st.totals (frames x)) (tail x)) (append_assoc (waiting_bytes st) a b) ∙ sym (feed_open st (a ++ b) o)
 
-  then-fed : (w : Bool) → wants_more (tail s) ≡ w → st.over ≡ false → feed_of (rested_of st t (tail s)) b ≡ feed_of st (a ++ b)
-  then-fed true w o =
+  then_fed : (w : Bool) → wants_more (tail s) ≡ w → st.over ≡ false → feed_of (rested_of st t (tail s)) b ≡ feed_of st (a ++ b)
+  then_fed true w o =
       let q = rested_of st t (tail s) in
       let e : waiting_bytes q ++ b ≡ tail s ++ b = ap (λ x. x ++ b) (waits_tail st t (tail s) w) in
       let z : q.over ≡ false = ap not w in
       feed_open q b z ∙ ap (λ x. rested_of st (onward t (frames x)) (tail x)) e ∙
       ap (λ x. rested_of st x (tail (tail s ++ b))) (sym (onward_append st.totals (frames s) (frames (tail s ++ b)))) ∙
       ap (λ (x : Pieces). rested_of st (onward st.totals x.records) x.rest) (sym (pieces_append s b)) ∙ at_once o
-  then-fed false w o =
+  then_fed false w o =
       let q = rested_of st t (tail s) in
       let z : q.over ≡ true = ap not w in
       let k = cut_broken (tail s) (tail_is_cut s) w in
@@ -186,12 +186,12 @@ module _ (st : Stream) (a b : List ℕ) where
       ap (λ (x : Pieces). rested_of st (onward st.totals x.records) x.rest) (sym (pieces_broken s b k)) ∙ at_once o
 
   -- feeding a, then b, is feeding a ++ b
-  pub feed-append : feed_of (feed_of st a) b ≡ feed_of st (a ++ b)
-  feed-append = by st.over refl
+  pub feed_append : feed_of (feed_of st a) b ≡ feed_of st (a ++ b)
+  feed_append = by st.over refl
     where
       by : (o : Bool) → st.over ≡ o → feed_of (feed_of st a) b ≡ feed_of st (a ++ b)
       by true o = ap (λ x. feed_of x b) (feed_over st a o) ∙ feed_over st b o ∙ sym (feed_over st (a ++ b) o)
-      by false o = ap (λ x. feed_of x b) (feed_open st a o) ∙ then-fed (wants_more (tail s)) refl o
+      by false o = ap (λ x. feed_of x b) (feed_open st a o) ∙ then_fed (wants_more (tail s)) refl o
 
 -- a count that is capped is raised as the number is
 pub raised_capped : (n : ℕ) → raised (capped n) ≡ capped (n + 1)
@@ -281,7 +281,7 @@ unfolding onward
 feed_stops {st} {part} {v} f o q e z =
     let u = read_none v (ap (λ (x : Consumed). x.at) (sym e) ∙ z) in
     let t : q.totals ≡ st.totals = ap (λ (x : Consumed). x.totals) e ∙ ap (onward st.totals) (frames_cut v u) in
-    ap (λ x. rested_of st x v) t ∙ ap (rested_of st st.totals) f.carries ∙ feed-cut st part o (ap cut_at (sym f.carries) ∙ u)
+    ap (λ x. rested_of st x v) t ∙ ap (rested_of st st.totals) f.carries ∙ feed_cut st part o (ap cut_at (sym f.carries) ∙ u)
 
 -- it is: the part goes on after it
 pub record Onto (st : Stream) (part : List ℕ) (taken : ℕ) (q : Consumed) : Type 0 where
@@ -303,6 +303,6 @@ feed_goes {st} {part} {v} {taken} f o q e z k g =
           ap (λ x. rested_of st x (drop (taken + k.at) part)) t ∙ ap (rested_of st (onward (onward st.totals (frames v)) (frames r))) d ∙
           ap (λ x. rested_of st (onward (onward st.totals (frames x)) (frames r)) (tail r)) f.carries ∙
           ap (λ x. rested_of st (onward (onward st.totals (frames (filled (waiting_bytes st) part))) (frames x)) (tail x)) l ∙
-          feed-whole st part o (ap cut_at (sym f.carries) ∙ u);
+          feed_whole st part o (ap cut_at (sym f.carries) ∙ u);
       within = omega (arith, f.within, length-drop taken part, ap (λ (y : Consumed). y.at) g, tail_within r);
     }

@@ -13,23 +13,23 @@ use Rattle.mirror.specs.Case.Case.{unsound, cut, bad, back, reset, torn, ignored
 use Rattle.mirror.specs.declared.panel.Panel.{Panel}
 
 module _ (p : Panel) (log : List ℕ) where
-  acts-case : Acts p log → (a b c : Bool) → is_first p ≡ a → is_status log ≡ b → is_doubtful p log ≡ c → Case p log (pick a 1 (pick b 2 (pick c 11 0)))
-  acts-case h true b c e f g = held h e
-  acts-case h false true c e f g = status h e f
-  acts-case h false false true e f g = doubtful h e f g
-  acts-case h false false false e f g = taken h e f g
+  acts_case : Acts p log → (a b c : Bool) → is_first p ≡ a → is_status log ≡ b → is_doubtful p log ≡ c → Case p log (pick a 1 (pick b 2 (pick c 11 0)))
+  acts_case h true b c e f g = held h e
+  acts_case h false true c e f g = status h e f
+  acts_case h false false true e f g = doubtful h e f g
+  acts_case h false false false e f g = taken h e f g
 
-  paired-case : Paired p log → (a b : Bool) → ignores p log ≡ a → is_none p log ≡ b →
+  paired_case : Paired p log → (a b : Bool) → ignores p log ≡ a → is_none p log ≡ b →
       Case p log (pick a 3 (pick b 7 (pick (is_first p) 1 (pick (is_status log) 2 (pick (is_doubtful p log) 11 0)))))
-  paired-case h true b e f = ignored h e
-  paired-case h false true e f = nothing h e f
-  paired-case h false false e f = acts-case (record { paired = h; minded = e; some = f }) (is_first p) (is_status log) (is_doubtful p log) refl refl refl
+  paired_case h true b e f = ignored h e
+  paired_case h false true e f = nothing h e f
+  paired_case h false false e f = acts_case (record { paired = h; minded = e; some = f }) (is_first p) (is_status log) (is_doubtful p log) refl refl refl
 
-  heard-case : Heard p log → (a b : Bool) → is_reset log ≡ a → tears p log ≡ b →
+  heard_case : Heard p log → (a b : Bool) → is_reset log ≡ a → tears p log ≡ b →
       Case p log (pick a 0 (pick b 4 (pick (ignores p log) 3 (pick (is_none p log) 7 (pick (is_first p) 1 (pick (is_status log) 2 (pick (is_doubtful p log) 11 0)))))))
-  heard-case h true b e f = reset h e
-  heard-case h false true e f = torn h e f
-  heard-case h false false e f = paired-case (record { heard = h; transfer = e; whole = f }) (ignores p log) (is_none p log) refl refl
+  heard_case h true b e f = reset h e
+  heard_case h false true e f = torn h e f
+  heard_case h false false e f = paired_case (record { heard = h; transfer = e; whole = f }) (ignores p log) (is_none p log) refl refl
 
   pub case : Case p log (number_for p log)
   case = by (sound_panel p) (cut_at log) (bad_at log) (is_back p log) refl refl refl refl where
@@ -45,7 +45,7 @@ module _ (p : Panel) (log : List ℕ) where
     by true false true d e f g h = bad e f g
     by true false false true e f g h = back e f g h
     by true false false false e f g h =
-        heard-case (record { sound = e; uncut = f; good = g; on_time = h }) (is_reset log) (tears p log) refl refl
+        heard_case (record { sound = e; uncut = f; good = g; on_time = h }) (is_reset log) (tears p log) refl refl
 
 -- what one record is answered with, and the panel afterwards, by the table alone
 pub answer_number : (p : Panel) (log : List ℕ) → answer_to p log ≡ number_for p log

@@ -121,9 +121,9 @@ module _ (p : Panel) (log : List ℕ) where
       (second r w nibble good reads rs g)
 
 module _ (p : Panel) (log : List ℕ) where
-  transfer-row : kind_of log ≡ 1 → 14 ≡ record_size log → RowAt (transfer_for (whole_at p) log) p log (transferred (time_of log) (rs_of log) (rw_of log) (data_of log) p)
+  transfer_row : kind_of log ≡ 1 → 14 ≡ record_size log → RowAt (transfer_for (whole_at p) log) p log (transferred (time_of log) (rs_of log) (rw_of log) (data_of log) p)
   unfolding transferred
-  transfer-row k s =
+  transfer_row k s =
       goes p log p.sheet.registers.eight p.half (free (time_of log) p) (is_good p) (rw_of log) (rs_of log)
       (record { kind = k; size = s; rs_is = refl; reads_is = refl })
 
@@ -136,7 +136,7 @@ module _ (p : Panel) (log : List ℕ) where
   frame_row f (bad g b) = rw (g.uncut, b) (row p log refl refl refl g.size)
   frame_row f (transfer g k b t) =
       rw (g.uncut, b, k)
-      (unless_back (is_back p log) (transferred (time_of log) (rs_of log) (rw_of log) (data_of log) p) g.size (transfer-row k g.size))
+      (unless_back (is_back p log) (transferred (time_of log) (rs_of log) (rw_of log) (data_of log) p) g.size (transfer_row k g.size))
   frame_row f (reset g k b t) =
       rw (g.uncut, b, k)
       (unless_back (is_back p log) (recorded (done (time_of log) (fresh_sheet p.sheet.registers.chip) p.times.reset p) say.Taken 0 12) g.size

@@ -3,7 +3,7 @@ use Rattle.std.specs.Prelude.{ℕ, zero, suc, ◌+◌, ◌<◌, List, [], ◌∷
 use Rattle.std.proofs.Common.{arith, get_or-drop}
 use Rattle.framing.specs.Frame.{data_of, record_size}
 use Rattle.framing.specs.Frames.{frames}
-use Rattle.framing.specs.laws.FramesLaws.{frames_cut, frames_next, frames-induction}
+use Rattle.framing.specs.laws.FramesLaws.{frames_cut, frames_next, frames_induction}
 use Rattle.mirror.specs.Panel.{fresh_panel}
 use Rattle.mirror.specs.Answers.{ByteLog, Typed, Proper}
 use Rattle.mirror.specs.laws.SoundParts.{parts}
@@ -24,7 +24,7 @@ taken_byte (x ∷ s) (suc n) (suc i) h = taken_byte s n i (λ j. h (suc j))
 
 pub frames_data : (s : List ℕ) → ByteLog s → AllData (frames s)
 frames_data =
-    frames-induction (λ s. ByteLog s → AllData (frames s)) (λ s u h. rw (frames_cut s u) tt)
+    frames_induction (λ s. ByteLog s → AllData (frames s)) (λ s u h. rw (frames_cut s u) tt)
     (λ s u more h. rw (frames_next s u) (taken_byte s (record_size s) 13 h, more (λ i. rw (get_or-drop (record_size s) s i 0) (h (record_size s + i)))))
 
 -- so the panel stays sound

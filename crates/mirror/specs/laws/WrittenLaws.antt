@@ -17,9 +17,9 @@ use Rattle.mirror.specs.Answers.{panel_after, Proper}
 use Rattle.mirror.specs.Good.{CarriedOut}
 use Rattle.mirror.specs.Written.{walk_of, Tells, bit_at, Agree, Keeps, KeptBits}
 use Rattle.mirror.specs.laws.SoundParts.{parts, whole}
-use Rattle.mirror.specs.laws.SoundLaws.{record-lasts}
+use Rattle.mirror.specs.laws.SoundLaws.{record_lasts}
 use Rattle.mirror.specs.laws.TypedLaws.{proper_lasts}
-use Rattle.mirror.specs.laws.CarriedLaws.{carried-sheet, reset-sheet}
+use Rattle.mirror.specs.laws.CarriedLaws.{carried_sheet, reset_sheet}
 use Rattle.mirror.specs.laws.RecordKeeps.{untaken_keeps}
 use Rattle.mirror.specs.declared.panel.Panel.{Panel}
 use Rattle.mirror.specs.declared.written.PlacesWritten.TheVariants.{Bits, Unsound}
@@ -49,32 +49,32 @@ sound_bits p e =
 
 module _ (p : Panel) (log : List ℕ) where
   -- the bits after what was carried out
-  carried-bits : {rs reads : Bool} → CarriedOut p log rs reads →
+  carried_bits : {rs reads : Bool} → CarriedOut p log rs reads →
       (panel_after p log).sheet.registers.written
       ≡ (pick rs (pick reads (passed p.sheet) (written (byte_of p log) p.sheet)) (obeyed (byte_of p log) p.sheet)).registers.written
-  carried-bits c = ap (λ (s : Sheet). s.registers.written) (carried-sheet p log c)
+  carried_bits c = ap (λ (s : Sheet). s.registers.written) (carried_sheet p log c)
 
   -- a write by the memory that its address points into
-  write-bits : {a : Address} → CarriedOut p log true false → p.sheet.registers.address ≡ a →
+  write_bits : {a : Address} → CarriedOut p log true false → p.sheet.registers.address ≡ a →
       (panel_after p log).sheet.registers.written ≡ (written_at a (byte_of p log) p.sheet).registers.written
-  write-bits {a} c e = carried-bits c ∙ ap (λ (s : Sheet). s.registers.written) (sym (written_as a (byte_of p log) p.sheet e))
+  write_bits {a} c e = carried_bits c ∙ ap (λ (s : Sheet). s.registers.written) (sym (written_as a (byte_of p log) p.sheet e))
 
-  proper-sound : Proper p log → sound_panel (panel_after p log) ≡ true
-  proper-sound h = whole (panel_after p log) (record-lasts p log (h.bytes 13) (proper_lasts h)).sound
+  proper_sound : Proper p log → sound_panel (panel_after p log) ≡ true
+  proper_sound h = whole (panel_after p log) (record_lasts p log (h.bytes 13) (proper_lasts h)).sound
 
   keeps : Keeps p log
   keeps =
       record {
-        still = λ h. sound_bits (panel_after p log) (proper-sound h);
+        still = λ h. sound_bits (panel_after p log) (proper_sound h);
         display_write = λ d w c a h.
-            ap (λ (x : ℕ). bit x a) (write-bits c.stores c.there ∙ display_write_marks d (byte_of p log) p.sheet (omega (arith, w)))
+            ap (λ (x : ℕ). bit x a) (write_bits c.stores c.there ∙ display_write_marks d (byte_of p log) p.sheet (omega (arith, w)))
             ∙ with_bit_lem display_size (d.0 % places_of p.sheet.registers.chip) (unblank (byte_of p log)) p.sheet.registers.written a h;
-        pattern_write = λ q c. write-bits c.stores c.there ∙ pattern_write_leaves q (byte_of p log) p.sheet;
-        read = λ c. carried-bits c ∙ read_leaves p.sheet;
+        pattern_write = λ q c. write_bits c.stores c.there ∙ pattern_write_leaves q (byte_of p log) p.sheet;
+        read = λ c. carried_bits c ∙ read_leaves p.sheet;
         fresh = λ chip r l s. refl;
-        reset = λ o e. ap (λ (s : Sheet). s.registers.written) (reset-sheet p log o e);
-        clear = λ c e. carried-bits c ∙ ap (λ (code : ℕ). (obeyed code p.sheet).registers.written) e ∙ clear_unwrites p.sheet;
-        instruction = λ c l. carried-bits c ∙ code_leaves (byte_of p log) p.sheet l;
+        reset = λ o e. ap (λ (s : Sheet). s.registers.written) (reset_sheet p log o e);
+        clear = λ c e. carried_bits c ∙ ap (λ (code : ℕ). (obeyed code p.sheet).registers.written) e ∙ clear_unwrites p.sheet;
+        instruction = λ c l. carried_bits c ∙ code_leaves (byte_of p log) p.sheet l;
         not_carried_out = λ o. ap (λ (q : Panel). q.sheet.registers.written) (untaken_keeps p log o);
       }
 

@@ -10,7 +10,7 @@ use Rattle.laws.specs.Pick.{pick}
 use Rattle.dots.specs.Landing.{dot}
 use Rattle.dots.specs.laws.LandingLaws.{Bytes, same_bytes}
 use Rattle.dots.specs.First.{first, first_dot}
-use Rattle.dots.specs.laws.FirstLaws.{first-dot-says}
+use Rattle.dots.specs.laws.FirstLaws.{first_dot_says}
 use Rattle.chip.specs.Sizes.{is_known}
 use Rattle.picture.specs.Frame.{glass}
 use Rattle.picture.specs.Compare.{Compares, compare_paper, differ, place_for, compared_of, FirstDifference, SameDots, Means}
@@ -22,11 +22,11 @@ module _ (chip : ℕ) (a b : List ℕ) (known : is_known chip ≡ true) (la : le
   sized = rw (known, eq-eqb (length a) (glass chip).size la, eq-eqb (length b) (glass chip).size lb)
 
   -- the answer is the first difference where it names a place; it says none only where every dot is equal; it is no refusal
-  pub compared-means : Means chip a b (compared_of chip a b)
+  pub compared_means : Means chip a b (compared_of chip a b)
   unfolding Means
-  compared-means =
+  compared_means =
       rw sized
-      (first-dot-says (differ chip a b) At Same (glass chip).cols (Means chip a b) 0 (glass chip).rows
+      (first_dot_says (differ chip a b) At Same (glass chip).cols (Means chip a b) 0 (glass chip).rows
       (λ r x _ p q e before. record {
         row_in = omega arith;
         column_in = q;
@@ -41,16 +41,16 @@ module _ (chip : ℕ) (a b : List ℕ) (known : is_known chip ≡ true) (la : le
   -- a place that is named is the first difference
   pub at_first : (r x : ℕ) → compared_of chip a b ≡ At r x → FirstDifference chip a b r x
   unfolding Means
-  at_first r x e = subst (Means chip a b) e compared-means
+  at_first r x e = subst (Means chip a b) e compared_means
 
   -- none is said exactly where every dot is equal
   pub same_equal : compared_of chip a b ≡ Same → SameDots chip a b
   unfolding Means
-  same_equal e = subst (Means chip a b) e compared-means
+  same_equal e = subst (Means chip a b) e compared_means
 
   pub equal_same : SameDots chip a b → compared_of chip a b ≡ Same
   unfolding Means
-  equal_same e = by (compared_of chip a b) compared-means
+  equal_same e = by (compared_of chip a b) compared_means
     where
       by : (c : Compared) → Means chip a b c → c ≡ Same
       by (At r x) m = absurd (m.differs (e r x m.row_in m.column_in))
@@ -59,8 +59,8 @@ module _ (chip : ℕ) (a b : List ℕ) (known : is_known chip ≡ true) (la : le
       by Unknown m = absurd m
 
   -- every bit of the frame is some dot's, so the frames are then the same bytes
-  pub same-frames : compared_of chip a b ≡ Same → Bytes a → Bytes b → a ≡ b
-  same-frames e ba bb = same_bytes (glass chip) (λ _ _ _ _. refl) a b la lb ba bb (same_equal e)
+  pub same_frames : compared_of chip a b ≡ Same → Bytes a → Bytes b → a ≡ b
+  same_frames e ba bb = same_bytes (glass chip) (λ _ _ _ _. refl) a b la lb ba bb (same_equal e)
 
 -- what is said of the first place is said of the place alone
 module _ {A B : Type 0} (f : A → B) where
@@ -73,13 +73,13 @@ module _ {A B : Type 0} (f : A → B) where
   first_said t found rest x zero = refl
   first_said t found rest x (suc k) = picked (t x) (found x) _ _ (first_said t found rest (x + 1) k)
 
-  first-dot-said : (t : ℕ → ℕ → Bool) (found : ℕ → ℕ → A) (rest : A) (cols r k : ℕ)
+  first_dot_said : (t : ℕ → ℕ → Bool) (found : ℕ → ℕ → A) (rest : A) (cols r k : ℕ)
       → f (first_dot t found rest cols r k) ≡ first_dot t (λ r x. f (found r x)) (f rest) cols r k
   unfolding first_dot
-  first-dot-said t found rest cols r zero = refl
-  first-dot-said t found rest cols r (suc k) =
+  first_dot_said t found rest cols r zero = refl
+  first_dot_said t found rest cols r (suc k) =
       first_said (t r) (found r) (first_dot t found rest cols (r + 1) k) 0 cols
-      ∙ ap (λ (b : B). first (t r) (λ x. f (found r x)) b 0 cols) (first-dot-said t found rest cols (r + 1) k)
+      ∙ ap (λ (b : B). first (t r) (λ x. f (found r x)) b 0 cols) (first_dot_said t found rest cols (r + 1) k)
 
 -- the answer on paper: 10 exactly where the chip is unknown, then 9 where a frame has another size, and then no place; otherwise
 -- the first, or none
@@ -88,8 +88,8 @@ compares chip a b answer e = record {
   told = e;
   paper = ap compare_paper e ∙ by (not (is_known chip)) (not (eqb (length a) (glass chip).size)) (not (eqb (length b) (glass chip).size))
       (first_dot (differ chip a b) At Same (glass chip).cols 0 (glass chip).rows)
-      (first-dot-says (differ chip a b) At Same (glass chip).cols (λ c. (compare_paper c).number ≡ none) 0 (glass chip).rows (λ _ _ _ _ _ _ _. refl) (λ _. refl))
-      (first-dot-said (λ c. (compare_paper c).place) (differ chip a b) At Same (glass chip).cols 0 (glass chip).rows);
+      (first_dot_says (differ chip a b) At Same (glass chip).cols (λ c. (compare_paper c).number ≡ none) 0 (glass chip).rows (λ _ _ _ _ _ _ _. refl) (λ _. refl))
+      (first_dot_said (λ c. (compare_paper c).place) (differ chip a b) At Same (glass chip).cols 0 (glass chip).rows);
 }
   where
     number : Bool → Bool → Bool → Option ℕ
@@ -104,10 +104,10 @@ compares chip a b answer e = record {
 
 -- a refused comparison names no place
 pub refused_nowhere : (c : Compared) (n : ℕ) → (compare_paper c).number ≡ some n → (compare_paper c).place ≡ none
-refused_nowhere (At r x) n e = absurd (none-some e)
+refused_nowhere (At r x) n e = absurd (none_some e)
   where
-    none-some : none ≡ some n → ⊥
-    none-some e = let z : ◌≡◌ {A = ℕ} 0 1 = cc in omega arith
+    none_some : none ≡ some n → ⊥
+    none_some e = let z : ◌≡◌ {A = ℕ} 0 1 = cc in omega arith
 refused_nowhere Same n e = refl
 refused_nowhere Size n e = refl
 refused_nowhere Unknown n e = refl

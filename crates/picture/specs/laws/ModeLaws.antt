@@ -9,7 +9,7 @@ use Rattle.laws.specs.Bit.{bit, one}
 use Rattle.laws.specs.laws.BitLaws.{bit_zero}
 use Rattle.dots.specs.Landing.{Landing, dot, dots_frame, count_of}
 use Rattle.dots.specs.Turned.{turned}
-use Rattle.dots.specs.laws.TurnedLaws.{twice-frame}
+use Rattle.dots.specs.laws.TurnedLaws.{twice_frame}
 use Rattle.chip.specs.Sizes.{one_line, two_lines, function_end}
 use Rattle.chip.specs.Step.{function_set}
 use Rattle.chip.specs.declared.sheet.Sheet.{Sheet}
@@ -20,8 +20,8 @@ use Rattle.picture.specs.Mode.{mode_b, row_turn, column_turn, glass_in, glass_fo
 use Rattle.picture.specs.Picture.{lit}
 use Rattle.picture.specs.Paint.{glass_of, paint_paper, painted_of, frame_after}
 use Rattle.picture.specs.declared.paint.Painted.{Painted}
-use Rattle.picture.specs.laws.PaintLaws.{painted-dots}
-use Rattle.picture.specs.laws.PictureLaws.{function-unseen}
+use Rattle.picture.specs.laws.PaintLaws.{painted_dots}
+use Rattle.picture.specs.laws.PictureLaws.{function_unseen}
 
 -- dot (r, x) of the one landing lands where dot (s, y) of the other would
 pub record LandsAs (L K : Landing) (r x s y : ℕ) : Type 0 where
@@ -47,7 +47,7 @@ two_lines_lands r x p q =
 -- turning twice is not turning
 pub turned_back : (chip : ℕ) (b : Bool) (g : ℕ → ℕ → Bool)
     → dots_frame (turned (glass_in chip b) (row_turn chip b) (column_turn chip b)) g ≡ dots_frame (glass chip) g
-turned_back chip b g = twice-frame (glass chip) (row_turn chip b) (column_turn chip b) g
+turned_back chip b g = twice_frame (glass chip) (row_turn chip b) (column_turn chip b) g
 
 -- as many dots of a sheet are lit, whatever its Function Set bits
 pub same_count : (s : Sheet) (font : List ℕ) (dark : Bool) (bits : ℕ)
@@ -61,14 +61,14 @@ module _ (p : Panel) where
   abbrev bits : ℕ
   bits = p.sheet.registers.function
 
-  pub upright-mode : mode_b (upright_of p).sheet.registers ≡ false
-  upright-mode =
+  pub upright_mode : mode_b (upright_of p).sheet.registers ≡ false
+  upright_mode =
       let lowest : bit (bits / 2 * 2) 0 ≡ 0 = bit_zero (bits / 2 * 2) ∙ omega arith in
       ap (λ (n : ℕ). eqb n 1) lowest
 
   -- it is sound exactly when the panel is
-  pub upright-sound : sound_panel (upright_of p) ≡ sound_panel p
-  upright-sound = rw (same (dec_lt bits function_end)) refl
+  pub upright_sound : sound_panel (upright_of p) ≡ sound_panel p
+  upright_sound = rw (same (dec_lt bits function_end)) refl
     where
       same : Dec (bits < function_end) → leb function_end (bits / 2 * 2) ≡ leb function_end bits
       same (yes h) = lt-leb function_end (bits / 2 * 2) (omega arith) ∙ sym (lt-leb function_end bits h)
@@ -76,18 +76,18 @@ module _ (p : Panel) where
 
   module _ (font : List ℕ) (dark : Bool) (frame : List ℕ) where
     -- the answer of a painting is the same, refusals and lit dots too
-    pub upright-answer : painted_of (upright_of p) font dark frame ≡ painted_of p font dark frame
+    pub upright_answer : painted_of (upright_of p) font dark frame ≡ painted_of p font dark frame
     unfolding count_of lit
-    upright-answer = rw upright-sound refl
+    upright_answer = rw upright_sound refl
 
     module _ (well : (paint_paper (painted_of p font dark frame)).number ≡ none) (r x : ℕ) (i : r < (glass_of p).rows) (j : x < (glass_of p).cols) where
       -- where it goes well, the dot (r, x) is then in its own place
-      pub upright-dot : dot (glass p.sheet.registers.chip) (frame_after (upright_of p) font dark frame) r x ≡ one (lit p.sheet font dark r x)
-      upright-dot =
-          sym (ap (λ (b : Bool). dot (glass_in p.sheet.registers.chip b) (frame_after (upright_of p) font dark frame) r x) upright-mode)
-          ∙ (painted-dots (upright_of p) font dark frame (ap (λ (a : Painted). (paint_paper a).number) upright-answer ∙ well)).1 r x i j
-          ∙ ap one (function-unseen p.sheet font dark r x (bits / 2 * 2))
+      pub upright_dot : dot (glass p.sheet.registers.chip) (frame_after (upright_of p) font dark frame) r x ≡ one (lit p.sheet font dark r x)
+      upright_dot =
+          sym (ap (λ (b : Bool). dot (glass_in p.sheet.registers.chip b) (frame_after (upright_of p) font dark frame) r x) upright_mode)
+          ∙ (painted_dots (upright_of p) font dark frame (ap (λ (a : Painted). (paint_paper a).number) upright_answer ∙ well)).1 r x i j
+          ∙ ap one (function_unseen p.sheet font dark r x (bits / 2 * 2))
 
       -- and in the panel's own mode in the place that it takes
-      pub mode-dot : dot (glass_of p) (frame_after p font dark frame) r x ≡ dot (glass p.sheet.registers.chip) (frame_after (upright_of p) font dark frame) r x
-      mode-dot = (painted-dots p font dark frame well).1 r x i j ∙ sym upright-dot
+      pub mode_dot : dot (glass_of p) (frame_after p font dark frame) r x ≡ dot (glass p.sheet.registers.chip) (frame_after (upright_of p) font dark frame) r x
+      mode_dot = (painted_dots p font dark frame well).1 r x i j ∙ sym upright_dot

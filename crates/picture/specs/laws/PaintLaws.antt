@@ -6,9 +6,9 @@ use Rattle.std.proofs.lemmas.Bool.{lt-leb}
 use Rattle.laws.specs.Pick.{pick}
 use Rattle.laws.specs.Bit.{one}
 use Rattle.dots.specs.Landing.{Landing, dot, dots_frame, count_of}
-use Rattle.dots.specs.laws.LandingLaws.{dot-frame, length-frame}
+use Rattle.dots.specs.laws.LandingLaws.{dot_frame, length_frame}
 use Rattle.dots.specs.engine.Ones.{ones_of}
-use Rattle.dots.specs.laws.CellsLaws.{page-frame}
+use Rattle.dots.specs.laws.CellsLaws.{page_frame}
 use Rattle.dots.specs.laws.OnesLaws.{ones_frame}
 use Rattle.chip.specs.declared.sheet.Sheet.{Sheet}
 use Rattle.mirror.specs.Panel.{sound_panel}
@@ -35,10 +35,10 @@ module _ (s : Sheet) (font : List ℕ) (dark : Bool) where
       → page_dot s font dark l p i c ≡ one (lit s font dark (l * tall + i) (p * wide + c))
   dots l p i c hl hp hi hc = shown_lit s font dark l p i c hi hc
 
-  pub page-painted : (f after : List ℕ) → f ≡ replicate own.size 0 → after ≡ page_put s font dark f → after ≡ dots_frame own (lit s font dark)
-  page-painted f after e P =
+  pub page_painted : (f after : List ℕ) → f ≡ replicate own.size 0 → after ≡ page_put s font dark f → after ≡ dots_frame own (lit s font dark)
+  page_painted f after e P =
       P ∙ ap (page_put s font dark) e
-      ∙ page-frame own (lit s font dark) tall wide positions count refl refl (page_dot s font dark) dots
+      ∙ page_frame own (lit s font dark) tall wide positions count refl refl (page_dot s font dark) dots
 
 module _ (panel : Panel) (font : List ℕ) (dark : Bool) (frame : List ℕ) where
   -- the answer on paper: 10 for a panel that is not sound, then 9 for a size, and then 0 lit dots; otherwise no number, and those that are lit
@@ -61,33 +61,33 @@ module _ (panel : Panel) (font : List ℕ) (dark : Bool) (frame : List ℕ) wher
       by false false false = refl
 
   -- the ways out of a painting
-  pub paints-unsound : not (sound_panel panel) ≡ true → Paints panel font dark frame Unsound frame
-  paints-unsound u = paints Unsound frame (rw u) (rw u)
+  pub paints_unsound : not (sound_panel panel) ≡ true → Paints panel font dark frame Unsound frame
+  paints_unsound u = paints Unsound frame (rw u) (rw u)
 
-  pub paints-font : not (sound_panel panel) ≡ false → (length font ≡ font_size → ⊥) → Paints panel font dark frame Size frame
-  paints-font u f = paints Size frame (rw (u, ne_eqb (length font) font_size f)) (rw (u, ne_eqb (length font) font_size f))
+  pub paints_font : not (sound_panel panel) ≡ false → (length font ≡ font_size → ⊥) → Paints panel font dark frame Size frame
+  paints_font u f = paints Size frame (rw (u, ne_eqb (length font) font_size f)) (rw (u, ne_eqb (length font) font_size f))
 
   module _ (u : not (sound_panel panel) ≡ false) (f : length font ≡ font_size) where
-    pub paints-size : (length frame ≡ (glass_of panel).size → ⊥) → Paints panel font dark frame Size frame
-    paints-size g =
+    pub paints_size : (length frame ≡ (glass_of panel).size → ⊥) → Paints panel font dark frame Size frame
+    paints_size g =
         paints Size frame
         (rw (u, eq-eqb (length font) font_size f, ne_eqb (length frame) (glass_of panel).size g))
         (rw (u, eq-eqb (length font) font_size f, ne_eqb (length frame) (glass_of panel).size g))
 
-    pub paints-lines : length frame ≡ (glass_of panel).size → (blank after : List ℕ) (n : ℕ) → blank ≡ replicate (glass_of panel).size 0
+    pub paints_lines : length frame ≡ (glass_of panel).size → (blank after : List ℕ) (n : ℕ) → blank ≡ replicate (glass_of panel).size 0
         → after ≡ page_put panel.sheet font dark blank → n ≡ ones_of after → Paints panel font dark frame (Lit n) after
-    paints-lines g blank after n e P counted =
-        let painted = page-painted panel.sheet font dark blank after e P in
+    paints_lines g blank after n e P counted =
+        let painted = page_painted panel.sheet font dark blank after e P in
         paints (Lit n) after
         (rw (u, eq-eqb (length font) font_size f, eq-eqb (length frame) (glass_of panel).size g)
         (ap Lit (counted ∙ ap ones_of painted ∙ ones_frame (glass_of panel) (lit panel.sheet font dark))))
         (rw (u, eq-eqb (length font) font_size f, eq-eqb (length frame) (glass_of panel).size g) painted)
 
   -- whatever holds of the two refusals, with the frame as it was, and of the painting, holds
-  pub painting-is : (P : Painted → List ℕ → Type 0) → P Unsound frame → P Size frame
+  pub painting_is : (P : Painted → List ℕ → Type 0) → P Unsound frame → P Size frame
       → P (Lit (count_of (glass_of panel) (lit panel.sheet font dark))) (dots_frame (glass_of panel) (lit panel.sheet font dark))
       → P (painted_of panel font dark frame) (frame_after panel font dark frame)
-  painting-is P unsound size painted = by (not (sound_panel panel)) (not (eqb (length font) font_size)) (not (eqb (length frame) (glass_of panel).size))
+  painting_is P unsound size painted = by (not (sound_panel panel)) (not (eqb (length font) font_size)) (not (eqb (length frame) (glass_of panel).size))
     where
       by : (p q t : Bool)
           → P (pick p Unsound (pick q Size (pick t Size (Lit (count_of (glass_of panel) (lit panel.sheet font dark))))))
@@ -98,46 +98,46 @@ module _ (panel : Panel) (font : List ℕ) (dark : Bool) (frame : List ℕ) wher
       by false false false = painted
 
   -- a refused painting reports 0 lit dots and leaves every byte as it was
-  pub refused-leaves : (n : ℕ) → (paint_paper (painted_of panel font dark frame)).number ≡ some n
+  pub refused_leaves : (n : ℕ) → (paint_paper (painted_of panel font dark frame)).number ≡ some n
       → ((paint_paper (painted_of panel font dark frame)).dots ≡ 0) × (frame_after panel font dark frame ≡ frame)
-  refused-leaves n =
-      painting-is (λ a f. (paint_paper a).number ≡ some n → ((paint_paper a).dots ≡ 0) × (f ≡ frame)) (λ _. (refl, refl)) (λ _. (refl, refl))
+  refused_leaves n =
+      painting_is (λ a f. (paint_paper a).number ≡ some n → ((paint_paper a).dots ≡ 0) × (f ≡ frame)) (λ _. (refl, refl)) (λ _. (refl, refl))
       (λ e. absurd (let z : ◌≡◌ {A = ℕ} 0 1 = cc in omega arith))
 
   -- a painting that goes well shows a dot exactly where it is lit, and answers the number of those dots
-  pub painted-dots : (paint_paper (painted_of panel font dark frame)).number ≡ none
+  pub painted_dots : (paint_paper (painted_of panel font dark frame)).number ≡ none
       → ((paint_paper (painted_of panel font dark frame)).dots ≡ count_of (glass_of panel) (lit panel.sheet font dark))
       × ((r x : ℕ) → r < (glass_of panel).rows → x < (glass_of panel).cols → dot (glass_of panel) (frame_after panel font dark frame) r x ≡ one (lit panel.sheet font dark r x))
-  painted-dots =
-      painting-is
+  painted_dots =
+      painting_is
       (λ a f. (paint_paper a).number ≡ none
       → ((paint_paper a).dots ≡ count_of (glass_of panel) (lit panel.sheet font dark))
       × ((r x : ℕ) → r < (glass_of panel).rows → x < (glass_of panel).cols → dot (glass_of panel) f r x ≡ one (lit panel.sheet font dark r x)))
       (λ e. absurd (let z : ◌≡◌ {A = ℕ} 0 1 = cc in omega arith)) (λ e. absurd (let z : ◌≡◌ {A = ℕ} 0 1 = cc in omega arith))
-      (λ _. (refl, dot-frame (glass_of panel) (lit panel.sheet font dark)))
+      (λ _. (refl, dot_frame (glass_of panel) (lit panel.sheet font dark)))
 
   -- the place that row r takes in the panel's own mode, and column x
-  abbrev rowOn : ℕ → ℕ
-  rowOn r = (row_turn panel.sheet.registers.chip (mode_b panel.sheet.registers)).at r
+  abbrev row_on : ℕ → ℕ
+  row_on r = (row_turn panel.sheet.registers.chip (mode_b panel.sheet.registers)).at r
 
-  abbrev columnOn : ℕ → ℕ
-  columnOn x = (column_turn panel.sheet.registers.chip (mode_b panel.sheet.registers)).at x
+  abbrev column_on : ℕ → ℕ
+  column_on x = (column_turn panel.sheet.registers.chip (mode_b panel.sheet.registers)).at x
 
   -- and read dot by dot, each in the place that it takes, it is the picture
-  pub painted-lit : (paint_paper (painted_of panel font dark frame)).number ≡ none → (r x : ℕ) → r < (glass_of panel).rows → x < (glass_of panel).cols
-      → lit_at panel.sheet.registers.chip (frame_after panel font dark frame) (rowOn r) (columnOn x) ≡ lit panel.sheet font dark r x
-  painted-lit h r x p q =
-      painting-is (λ a f. (paint_paper a).number ≡ none → lit_at panel.sheet.registers.chip f (rowOn r) (columnOn x) ≡ lit panel.sheet font dark r x)
+  pub painted_lit : (paint_paper (painted_of panel font dark frame)).number ≡ none → (r x : ℕ) → r < (glass_of panel).rows → x < (glass_of panel).cols
+      → lit_at panel.sheet.registers.chip (frame_after panel font dark frame) (row_on r) (column_on x) ≡ lit panel.sheet font dark r x
+  painted_lit h r x p q =
+      painting_is (λ a f. (paint_paper a).number ≡ none → lit_at panel.sheet.registers.chip f (row_on r) (column_on x) ≡ lit panel.sheet font dark r x)
       (λ e. absurd (let z : ◌≡◌ {A = ℕ} 0 1 = cc in omega arith)) (λ e. absurd (let z : ◌≡◌ {A = ℕ} 0 1 = cc in omega arith))
       (λ _. rw (
-        eq-eqb _ _ (length-frame (glass_of panel) (lit panel.sheet font dark)),
+        eq-eqb _ _ (length_frame (glass_of panel) (lit panel.sheet font dark)),
         lt-leb _ _ ((row_turn panel.sheet.registers.chip (mode_b panel.sheet.registers)).inside r p),
         lt-leb _ _ ((column_turn panel.sheet.registers.chip (mode_b panel.sheet.registers)).inside x q),
-        dot-frame (glass_of panel) (lit panel.sheet font dark) r x p q,
+        dot_frame (glass_of panel) (lit panel.sheet font dark) r x p q,
       )
-      (one-eqb (lit panel.sheet font dark r x)))
+      (one_eqb (lit panel.sheet font dark r x)))
       h
     where
-      one-eqb : (b : Bool) → eqb (one b) 1 ≡ b
-      one-eqb true = refl
-      one-eqb false = refl
+      one_eqb : (b : Bool) → eqb (one b) 1 ≡ b
+      one_eqb true = refl
+      one_eqb false = refl

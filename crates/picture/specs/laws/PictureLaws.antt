@@ -16,43 +16,43 @@ use Rattle.picture.specs.Picture.{code_at, shape_at, pattern_dot, at_cursor, cur
 
 module _ (s : Sheet) (font : List ℕ) (dark : Bool) (r x : ℕ) where
   -- with D = 0 no dot is lit
-  pub off-dark : s.registers.on ≡ false → lit s font dark r x ≡ false
+  pub off_dark : s.registers.on ≡ false → lit s font dark r x ≡ false
   unfolding lit
-  off-dark d = rw d
+  off_dark d = rw d
 
   -- the blink lights every row of its cell while dark
-  pub blink-lights : s.registers.on ≡ true → s.registers.blink ≡ true → dark ≡ true → at_cursor s r x ≡ true → lit s font dark r x ≡ true
+  pub blink_lights : s.registers.on ≡ true → s.registers.blink ≡ true → dark ≡ true → at_cursor s r x ≡ true → lit s font dark r x ≡ true
   unfolding lit
-  blink-lights d b k h = simp (d, b, k, h, or-true)
+  blink_lights d b k h = simp (d, b, k, h, or-true)
 
   -- and nothing while light
-  pub light-blink : dark ≡ false → lit s font dark r x ≡ (s.registers.on && (pattern_dot s font r x || cursor_dot s r x))
+  pub light_blink : dark ≡ false → lit s font dark r x ≡ (s.registers.on && (pattern_dot s font r x || cursor_dot s r x))
   unfolding lit
-  light-blink k = rw (k, and-false s.registers.blink, or-false (pattern_dot s font r x || cursor_dot s r x))
+  light_blink k = rw (k, and-false s.registers.blink, or-false (pattern_dot s font r x || cursor_dot s r x))
 
   -- the cursor lights row 7 of its cell, which stands on its line alone
-  pub cursor-lights : s.registers.on ≡ true → s.registers.cursor ≡ true → at_cursor s r x ≡ true → eqb (r % tall) cursor_row ≡ true
+  pub cursor_lights : s.registers.on ≡ true → s.registers.cursor ≡ true → at_cursor s r x ≡ true → eqb (r % tall) cursor_row ≡ true
       → lit s font dark r x ≡ true
   unfolding lit
-  cursor-lights d c h e = rw (d, c, h, e, or-true (pattern_dot s font r x))
+  cursor_lights d c h e = rw (d, c, h, e, or-true (pattern_dot s font r x))
 
   -- and no other row
-  pub other-rows : eqb (r % tall) cursor_row ≡ false → lit s font dark r x ≡ (s.registers.on && (pattern_dot s font r x || blink_dot s dark r x))
+  pub other_rows : eqb (r % tall) cursor_row ≡ false → lit s font dark r x ≡ (s.registers.on && (pattern_dot s font r x || blink_dot s dark r x))
   unfolding lit
-  other-rows e =
+  other_rows e =
       rw (e, and-false (s.registers.cursor && at_cursor s r x), or-false (pattern_dot s font r x))
 
   -- cursor and blink light no other cell
-  pub other-cells : at_cursor s r x ≡ false → lit s font dark r x ≡ (s.registers.on && pattern_dot s font r x)
+  pub other_cells : at_cursor s r x ≡ false → lit s font dark r x ≡ (s.registers.on && pattern_dot s font r x)
   unfolding lit
-  other-cells h =
+  other_cells h =
       rw (h, and-false s.registers.cursor, and-false (s.registers.blink && dark))
       (ap (λ (b : Bool). s.registers.on && b) (or-false (pattern_dot s font r x || false) ∙ or-false (pattern_dot s font r x)))
 
   -- the low four Function Set bits light nothing
-  pub function-unseen : (n : ℕ) → lit (function_set s.registers.eight n s) font dark r x ≡ lit s font dark r x
+  pub function_unseen : (n : ℕ) → lit (function_set s.registers.eight n s) font dark r x ≡ lit s font dark r x
   unfolding lit
-  function-unseen n = refl
+  function_unseen n = refl
 
   -- two sheets and fonts with the same patterns and registers light the same dots
   same_shape : (m f : List ℕ) → shape_at s font (r / tall) (x / wide) ≡ shape_of m f (code_at s (r / tall) (x / wide)) → lit s font dark r x ≡ lit (with_pattern m s) f dark r x

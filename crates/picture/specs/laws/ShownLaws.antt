@@ -9,7 +9,7 @@ use Rattle.laws.specs.Pick.{pick}
 use Rattle.laws.specs.Bit.{bit, one}
 use Rattle.laws.specs.laws.BitLaws.{bit_lt, one_bit, bit_of_zero}
 use Rattle.dots.specs.Table.{table}
-use Rattle.dots.specs.laws.TableLaws.{getD_table, length_table}
+use Rattle.dots.specs.laws.TableLaws.{get_d_table, length_table}
 use Rattle.dots.specs.laws.PartsLaws.{part_back, place_back}
 use Rattle.chip.specs.Address.{pattern, read_pattern}
 use Rattle.chip.specs.declared.sheet.Sheet.{Sheet}
@@ -23,39 +23,39 @@ pub shape_from_lem : (s : Sheet) (font : List ℕ) (l p : ℕ) (own : List (List
     → own ≡ patterns_of s.pattern → code ≡ code_at s l p → rows ≡ shape_from own font code → rows ≡ shape_at s font l p
 shape_from_lem s font l p own code rows eo ec er =
     er ∙ ap (λ (o : List (List ℕ)). shape_from o font code) eo ∙ ap (shape_from (patterns_of s.pattern) font) ec
-    ∙ ap (λ (shape : List ℕ). pick (ltb (code_at s l p) font_start) shape (glyph_of font (code_at s l p))) (own-pattern s.pattern (code_at s l p))
+    ∙ ap (λ (shape : List ℕ). pick (ltb (code_at s l p) font_start) shape (glyph_of font (code_at s l p))) (own_pattern s.pattern (code_at s l p))
   where
-    own-pattern : (memory : List ℕ) (code : ℕ) → get_or (patterns_of memory) (code % patterns) [] ≡ pattern_of memory code
-    own-pattern memory code =
-        getD_table (pattern_of memory) patterns (code % patterns) [] (omega arith)
+    own_pattern : (memory : List ℕ) (code : ℕ) → get_or (patterns_of memory) (code % patterns) [] ≡ pattern_of memory code
+    own_pattern memory code =
+        get_d_table (pattern_of memory) patterns (code % patterns) [] (omega arith)
         ∙ ap (λ (n : ℕ). table (λ r. read_pattern (pattern (tall * n + r)) memory) tall) (mod-mod code patterns)
 
 module _ (s : Sheet) (font : List ℕ) (dark : Bool) (l p : ℕ) where
   abbrev away : Bool
   away = not (cursor_here s.registers l p)
 
-  pub shown-off : not s.registers.on ≡ true → replicate tall 0 ≡ shown_of s font dark l p
+  pub shown_off : not s.registers.on ≡ true → replicate tall 0 ≡ shown_of s font dark l p
   unfolding shown_of
-  shown-off d = rw d
+  shown_off d = rw d
 
-  pub shown-away : not s.registers.on ≡ false → away ≡ true → shape_at s font l p ≡ shown_of s font dark l p
+  pub shown_away : not s.registers.on ≡ false → away ≡ true → shape_at s font l p ≡ shown_of s font dark l p
   unfolding shown_of
-  shown-away d h = rw (d, h)
+  shown_away d h = rw (d, h)
 
-  pub shown-blink : not s.registers.on ≡ false → away ≡ false → (s.registers.blink && dark) ≡ true
+  pub shown_blink : not s.registers.on ≡ false → away ≡ false → (s.registers.blink && dark) ≡ true
       → replicate tall full ≡ shown_of s font dark l p
   unfolding shown_of
-  shown-blink d h b = rw (d, h, b)
+  shown_blink d h b = rw (d, h, b)
 
-  pub shown-under : not s.registers.on ≡ false → away ≡ false → (s.registers.blink && dark) ≡ false → s.registers.cursor ≡ true
+  pub shown_under : not s.registers.on ≡ false → away ≡ false → (s.registers.blink && dark) ≡ false → s.registers.cursor ≡ true
       → set (shape_at s font l p) cursor_row full ≡ shown_of s font dark l p
   unfolding shown_of
-  shown-under d h b u = rw (d, h, b, u)
+  shown_under d h b u = rw (d, h, b, u)
 
-  pub shown-bare : not s.registers.on ≡ false → away ≡ false → (s.registers.blink && dark) ≡ false → s.registers.cursor ≡ false
+  pub shown_bare : not s.registers.on ≡ false → away ≡ false → (s.registers.blink && dark) ≡ false → s.registers.cursor ≡ false
       → shape_at s font l p ≡ shown_of s font dark l p
   unfolding shown_of
-  shown-bare d h b u = rw (d, h, b, u)
+  shown_bare d h b u = rw (d, h, b, u)
 
 all_five : (j : ℕ) → j < wide → bit full j ≡ 1
 all_five zero h = refl
@@ -86,22 +86,22 @@ module _ (shape : List ℕ) (i j : ℕ) (long : length shape ≡ tall) (p : i < 
       ap (λ (n : ℕ). bit n j) (get_or-set_other shape cursor_row i full 0 d) ∙ sym bare
       ∙ sym (ap one (ap (λ (b : Bool). eqb (bit (get_or shape i 0) j) 1 || b) (ne_eqb i cursor_row d) ∙ or-false (eqb (bit (get_or shape i 0) j) 1)))
 
-  cell-dot : (on here blink cursor : Bool)
+  cell_dot : (on here blink cursor : Bool)
       → bit (get_or (pick (not on) (replicate tall 0) (pick (not here) shape (pick blink (replicate tall full) (pick cursor (set shape cursor_row full) shape)))) i 0) j
       ≡ one (on && (eqb (bit (get_or shape i 0) j) 1 || cursor && here && eqb i cursor_row || blink && here))
-  cell-dot false here blink cursor = ap (λ (n : ℕ). bit n j) (get_or-replicate tall i 0 0 p) ∙ bit_of_zero j
-  cell-dot true false blink cursor = simp (and-false, or-false) (sym bare)
-  cell-dot true true true cursor =
+  cell_dot false here blink cursor = ap (λ (n : ℕ). bit n j) (get_or-replicate tall i 0 0 p) ∙ bit_of_zero j
+  cell_dot true false blink cursor = simp (and-false, or-false) (sym bare)
+  cell_dot true true true cursor =
       simp or-true (ap (λ (n : ℕ). bit n j) (get_or-replicate tall i full 0 p) ∙ all_five j q)
-  cell-dot true true false true = simp or-false (underlined (ℕ_discrete i cursor_row))
-  cell-dot true true false false = simp or-false (sym bare)
+  cell_dot true true false true = simp or-false (underlined (ℕ_discrete i cursor_row))
+  cell_dot true true false false = simp or-false (sym bare)
 
 -- the dots of the rows shown are the lit dots
 pub shown_lit : (s : Sheet) (font : List ℕ) (dark : Bool) (l p i c : ℕ) → i < tall → c < wide
     → page_dot s font dark l p i c ≡ one (lit s font dark (l * tall + i) (p * wide + c))
 unfolding lit shown_of
 shown_lit s font dark l p i c hi hc =
-    cell-dot (shape_at s font l p) i (wide - 1 - c) (length_shape s.pattern font (code_at s l p)) hi (omega arith) s.registers.on
+    cell_dot (shape_at s font l p) i (wide - 1 - c) (length_shape s.pattern font (code_at s l p)) hi (omega arith) s.registers.on
     (cursor_here s.registers l p) (s.registers.blink && dark) s.registers.cursor
     ∙ sym (ap₂ (λ (m j : ℕ). one (dot_at m j ((p * wide + c) / wide) ((p * wide + c) % wide))) (part_back tall l i hi) (place_back tall l i hi)
     ∙ ap₂ (λ (q k : ℕ). one (dot_at l i q k)) (part_back wide p c hc) (place_back wide p c hc))

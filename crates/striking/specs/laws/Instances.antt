@@ -11,24 +11,24 @@ by_test true p q = p refl
 by_test false p q = q refl
 
 module _ {S X E A : Type 0} (read : X → E) (m : Machine S E A) where
-  through-follows : (Beside : S → S → S → Type 0) (own : Own) (x : X) (o : Out S A) (k s : S) →
+  through_follows : (Beside : S → S → S → Type 0) (own : Own) (x : X) (o : Out S A) (k s : S) →
       Follows m Beside own (read x) o k s → Follows (through read m) Beside own x o k s
-  through-follows Beside stays x o k s h = h
-  through-follows Beside goes x o k s h = h
-  through-follows Beside waits x o k s h = h
+  through_follows Beside stays x o k s h = h
+  through_follows Beside goes x o k s h = h
+  through_follows Beside waits x o k s h = h
 
-  through-turn : (Beside : S → S → S → Type 0) (x : X) (o : Out S A) (k s : S) → Turn m Beside (read x) o k s → Turn (through read m) Beside x o k s
-  through-turn Beside x o k s h =
+  through_turn : (Beside : S → S → S → Type 0) (x : X) (o : Out S A) (k s : S) → Turn m Beside (read x) o k s → Turn (through read m) Beside x o k s
+  through_turn Beside x o k s h =
       let t = m.sort (read x) o.answer in
-      record { follows = through-follows Beside t.own x o (if_kept t.others k s) (if_struck t.others k s) h.follows }
+      record { follows = through_follows Beside t.own x o (if_kept t.others k s) (if_struck t.others k s) h.follows }
 
   -- a machine has the laws however its events are read
-  pub through-laws : Laws m → Laws (through read m)
-  through-laws laws =
+  pub through_laws : Laws m → Laws (through read m)
+  through_laws laws =
       record {
         Beside = laws.Beside;
         begins = laws.begins;
-        turns = λ w k s x b. through-turn laws.Beside x (m.step w (read x)) k s (laws.turns w k s (read x) b);
+        turns = λ w k s x b. through_turn laws.Beside x (m.step w (read x)) k s (laws.turns w k s (read x) b);
         ends = laws.ends;
         keeper_stays = λ x a. laws.keeper_stays (read x) a;
       }

@@ -5,15 +5,15 @@ use Rattle.striking.specs.Machine.{Machine, answered, events, run, final}
 
 module _ {S E A : Type 0} (m : Machine S E A) where
   -- a run on a log is the runs on its parts, the second from where the first ends
-  pub run-append : (s : S) (a b : List E) → run m s (a ++ b) ≡ run m s a ++ run m (final m s a) b
-  run-append s [] b = refl
-  run-append s (e ∷ a) b = ap (λ l. answered e (m.step s e).answer ∷ l) (run-append (m.step s e).state a b)
+  pub run_append : (s : S) (a b : List E) → run m s (a ++ b) ≡ run m s a ++ run m (final m s a) b
+  run_append s [] b = refl
+  run_append s (e ∷ a) b = ap (λ l. answered e (m.step s e).answer ∷ l) (run_append (m.step s e).state a b)
 
-  pub final-append : (s : S) (a b : List E) → final m s (a ++ b) ≡ final m (final m s a) b
-  final-append s [] b = refl
-  final-append s (e ∷ a) b = final-append (m.step s e).state a b
+  pub final_append : (s : S) (a b : List E) → final m s (a ++ b) ≡ final m (final m s a) b
+  final_append s [] b = refl
+  final_append s (e ∷ a) b = final_append (m.step s e).state a b
 
   -- a run answers every record of the log, once each, in order
-  pub run-events : (s : S) (log : List E) → events (run m s log) ≡ log
-  run-events s [] = refl
-  run-events s (e ∷ log) = ap (λ l. e ∷ l) (run-events (m.step s e).state log)
+  pub run_events : (s : S) (log : List E) → events (run m s log) ≡ log
+  run_events s [] = refl
+  run_events s (e ∷ log) = ap (λ l. e ∷ l) (run_events (m.step s e).state log)

@@ -5,8 +5,8 @@ use Rattle.std.proofs.Common.{◌∙◌}
 use mathlib.Core.List.{List, [], ◌∷◌, Sublistᴰ}
 use Rattle.laws.specs.Pick.{pick}
 use Rattle.striking.specs.Machine.{Own, stays, goes, waits, Others, keeps, strikes, leaves, Sort, Out, Machine, Answered, answered, events, run, final}
-use Rattle.striking.specs.laws.MachineLaws.{run-events}
-use Rattle.striking.specs.Striking.{settled, remains, sortOf, keptBy, unstruck, Struck}
+use Rattle.striking.specs.laws.MachineLaws.{run_events}
+use Rattle.striking.specs.Striking.{settled, remains, sort_of, kept_by, unstruck, Struck}
 use Rattle.striking.specs.Duties.{if_kept, if_struck, KeeperStays, Follows, Laws}
 
 pick_same : {B : Type 0} (b : Bool) (x : B) → pick b x x ≡ x
@@ -14,15 +14,15 @@ pick_same true x = refl
 pick_same false x = refl
 
 module _ {E A : Type 0} (sort : E → A → Sort) where
-  pick-sublist : (b : Bool) (a : Answered E A) (left : List (Answered E A)) (log : List E) → Sublistᴰ (events left) log →
+  pick_sublist : (b : Bool) (a : Answered E A) (left : List (Answered E A)) (log : List E) → Sublistᴰ (events left) log →
       Sublistᴰ (events (pick b (a ∷ left) left)) (a.event ∷ log)
-  pick-sublist true a left log h = Sublistᴰ.cons-cons refl h
-  pick-sublist false a left log h = Sublistᴰ.cons h
+  pick_sublist true a left log h = Sublistᴰ.cons-cons refl h
+  pick_sublist false a left log h = Sublistᴰ.cons h
 
   -- striking leaves records out; it adds, changes and moves none
-  pub unstruck-sublist : (l : List (Answered E A)) → Sublistᴰ (events (unstruck sort l)) (events l)
-  unstruck-sublist [] = Sublistᴰ.slnil
-  unstruck-sublist (a ∷ l) = pick-sublist (remains (sortOf sort a).own (keptBy sort l)) a (unstruck sort l) (events l) (unstruck-sublist l)
+  pub unstruck_sublist : (l : List (Answered E A)) → Sublistᴰ (events (unstruck sort l)) (events l)
+  unstruck_sublist [] = Sublistᴰ.slnil
+  unstruck_sublist (a ∷ l) = pick_sublist (remains (sort_of sort a).own (kept_by sort l)) a (unstruck sort l) (events l) (unstruck_sublist l)
 
 -- STRIKING TWICE. A record that keeps others stays, so what was kept once is kept again.
 
@@ -38,29 +38,29 @@ remains_again goes before after h r = r
 remains_again waits before after h r = h r
 
 module _ {E A : Type 0} (sort : E → A → Sort) (keeper_stays : (e : E) (a : A) → KeeperStays (sort e a).own (sort e a).others) where
-  kept-pick : (b : Bool) (a : Answered E A) (l : List (Answered E A)) →
-      keptBy sort (pick b (a ∷ l) l) ≡ pick b (settled (sortOf sort a).others (keptBy sort l)) (keptBy sort l)
-  kept-pick true a l = refl
-  kept-pick false a l = refl
+  kept_pick : (b : Bool) (a : Answered E A) (l : List (Answered E A)) →
+      kept_by sort (pick b (a ∷ l) l) ≡ pick b (settled (sort_of sort a).others (kept_by sort l)) (kept_by sort l)
+  kept_pick true a l = refl
+  kept_pick false a l = refl
 
-  still_kept : (l : List (Answered E A)) → keptBy sort l ≡ true → keptBy sort (unstruck sort l) ≡ true
+  still_kept : (l : List (Answered E A)) → kept_by sort l ≡ true → kept_by sort (unstruck sort l) ≡ true
   still_kept [] k = refl
   still_kept (a ∷ l) k =
-      let t = sortOf sort a in
-      kept-pick (remains t.own (keptBy sort l)) a (unstruck sort l)
-      ∙ kept_again t.own t.others (keptBy sort l) (keptBy sort (unstruck sort l)) (keeper_stays a.event a.answer) (still_kept l) k
+      let t = sort_of sort a in
+      kept_pick (remains t.own (kept_by sort l)) a (unstruck sort l)
+      ∙ kept_again t.own t.others (kept_by sort l) (kept_by sort (unstruck sort l)) (keeper_stays a.event a.answer) (still_kept l) k
 
-  pick-again : (a : Answered E A) (l : List (Answered E A)) (b : Bool) → (b ≡ true → remains (sortOf sort a).own (keptBy sort l) ≡ true) →
+  pick_again : (a : Answered E A) (l : List (Answered E A)) (b : Bool) → (b ≡ true → remains (sort_of sort a).own (kept_by sort l) ≡ true) →
       unstruck sort l ≡ l → unstruck sort (pick b (a ∷ l) l) ≡ pick b (a ∷ l) l
-  pick-again a l true h e = rw (h refl, e) refl
-  pick-again a l false h e = e
+  pick_again a l true h e = rw (h refl, e) refl
+  pick_again a l false h e = e
 
-  pub unstruck-twice : (l : List (Answered E A)) → unstruck sort (unstruck sort l) ≡ unstruck sort l
-  unstruck-twice [] = refl
-  unstruck-twice (a ∷ l) =
-      let t = sortOf sort a in
-      pick-again a (unstruck sort l) (remains t.own (keptBy sort l))
-      (remains_again t.own (keptBy sort l) (keptBy sort (unstruck sort l)) (still_kept l)) (unstruck-twice l)
+  pub unstruck_twice : (l : List (Answered E A)) → unstruck sort (unstruck sort l) ≡ unstruck sort l
+  unstruck_twice [] = refl
+  unstruck_twice (a ∷ l) =
+      let t = sort_of sort a in
+      pick_again a (unstruck sort l) (remains t.own (kept_by sort l))
+      (remains_again t.own (kept_by sort l) (kept_by sort (unstruck sort l)) (still_kept l)) (unstruck_twice l)
 
 -- ANSWERS AND STATE. The struck log is answered from k or from s: the rest of the log says from which.
 
@@ -90,25 +90,25 @@ module _ {S E A : Type 0} (m : Machine S E A) (laws : Laws m) where
   one waits true e o k s left w h go = sent k e o.answer left w h.0 (go (m.step k e).state s h.1)
   one waits false e o k s left w h go = go (m.step k e).state s h.1
 
-  strike-from : (log : List E) (w k s : S) → laws.Beside w k s →
-      Left (pick (keptBy m.sort (run m w log)) k s) (unstruck m.sort (run m w log)) (final m w log)
-  strike-from [] w k s b = record { answers = refl; state = laws.ends w k s b }
-  strike-from (e ∷ log) w k s b =
+  strike_from : (log : List E) (w k s : S) → laws.Beside w k s →
+      Left (pick (kept_by m.sort (run m w log)) k s) (unstruck m.sort (run m w log)) (final m w log)
+  strike_from [] w k s b = record { answers = refl; state = laws.ends w k s b }
+  strike_from (e ∷ log) w k s b =
       let o = m.step w e in
       let t = m.sort e o.answer in
       let rest = run m o.state log in
-      rw (choice t.others (keptBy m.sort rest) k s)
-      (one t.own (keptBy m.sort rest) e o (if_kept t.others k s) (if_struck t.others k s) (unstruck m.sort rest)
-      (final m o.state log) (laws.turns w k s e b).follows (λ k₁ s₁ h. strike-from log o.state k₁ s₁ h))
+      rw (choice t.others (kept_by m.sort rest) k s)
+      (one t.own (kept_by m.sort rest) e o (if_kept t.others k s) (if_struck t.others k s) (unstruck m.sort rest)
+      (final m o.state log) (laws.turns w k s e b).follows (λ k₁ s₁ h. strike_from log o.state k₁ s₁ h))
 
   -- STRIKING, for every log, from a state in which nothing waits
   pub striking : (s : S) → m.Idle s → (log : List E) → Struck m s log
   striking s i log =
       let all = run m s log in
-      let h : Left s (unstruck m.sort all) (final m s log) = rw (pick_same (keptBy m.sort all) s) at (strike-from log s s s (laws.begins s i)) in
+      let h : Left s (unstruck m.sort all) (final m s log) = rw (pick_same (kept_by m.sort all) s) at (strike_from log s s s (laws.begins s i)) in
       record {
-        in_order = rw (run-events m s log) at (unstruck-sublist m.sort all);
+        in_order = rw (run_events m s log) at (unstruck_sublist m.sort all);
         answers = h.answers;
         state = h.state;
-        twice = rw (h.answers, unstruck-twice m.sort laws.keeper_stays all) refl;
+        twice = rw (h.answers, unstruck_twice m.sort laws.keeper_stays all) refl;
       }

@@ -23,8 +23,8 @@ module _ (log : List ℕ) where
   by_tests false false rest e =
       omega (arith, some_or_none (rest == 8 || rest == 10) (record_size log), (uncut_front log e).fits)
 
-  pub used-within : (p : Panel) (r : Recorded) → Records p log r → r.used ≤ length log
-  used-within p r R =
+  pub used_within : (p : Panel) (r : Recorded) → Records p log r → r.used ≤ length log
+  used_within p r R =
       rw R.tabled.used
       (by_tests (not (sound_panel p)) (cut_at log) (pick (bad_at log) 6 (pick (is_back p log) 5 (pick (is_reset log) 0 (transfer_for p log)))) refl)
 
@@ -32,7 +32,7 @@ module _ (log : List ℕ) where
 pub used_reaches : (block : List ℕ) (at : ℕ) (p : Panel) (r : Recorded) → at ≤ length block
     → Records p (take (length block - at) (drop at block)) r → at + r.used ≤ length block
 used_reaches block at p r h R =
-    omega (arith, used-within (take (length block - at) (drop at block)) p r R, length-take (length block - at) (drop at block))
+    omega (arith, used_within (take (length block - at) (drop at block)) p r R, length-take (length block - at) (drop at block))
 
 -- bytes that are moved to the front: those before i are there, and from i on all are as they were
 pub record Moving (before : List ℕ) (at end : ℕ) (block : List ℕ) (i : ℕ) : Type 0 where

@@ -24,7 +24,7 @@ use Rattle.picture.specs.Picture.{codes_of, pattern_dot, cursor_row, lit}
 use Rattle.picture.specs.Paint.{frame_after}
 use Rattle.picture.specs.declared.cursor.Cursor.{Cursor}
 use Rattle.picture.specs.declared.cursor.Cursor.TheVariants.{Off, At}
-use Rattle.picture.specs.laws.ModeLaws.{upright-mode, upright-sound}
+use Rattle.picture.specs.laws.ModeLaws.{upright_mode, upright_sound}
 use Rattle.wall.specs.Beneath.{cursor_line, picture_bytes, shown_lines}
 use Rattle.wall.specs.Draw.{drawing_bytes, drawn_panel}
 use Rattle.wall.specs.Look.{Alike, look_of}
@@ -93,35 +93,35 @@ module _ (p : Panel) (sound : sound_panel p ≡ true) (font : List ℕ) (dark : 
   as_is : frame_after p font dark frame ≡ frame_in k k.turned font dark frame
   as_is = ap (λ (b : Bool). framed b k.turned (lit p.sheet font dark)) sound ∙ sym (ap (framed true k.turned) (lit_look p.sheet font dark))
 
-  in-mode-a : frame_after (upright_of p) font dark frame ≡ frame_in k false font dark frame
+  in_mode_a : frame_after (upright_of p) font dark frame ≡ frame_in k false font dark frame
   unfolding lit
-  in-mode-a =
-      ap (λ (b : Bool). framed b (mode_b (upright_of p).sheet.registers) (lit p.sheet font dark)) (upright-sound p ∙ sound)
-      ∙ ap (λ (b : Bool). framed true b (lit p.sheet font dark)) (upright-mode p)
+  in_mode_a =
+      ap (λ (b : Bool). framed b (mode_b (upright_of p).sheet.registers) (lit p.sheet font dark)) (upright_sound p ∙ sound)
+      ∙ ap (λ (b : Bool). framed true b (lit p.sheet font dark)) (upright_mode p)
       ∙ sym (ap (framed true false) (lit_look p.sheet font dark))
 
 -- two sound panels that look alike
 module _ (p q : Panel) (P : sound_panel p ≡ true) (Q : sound_panel q ≡ true) (e : look_of p.sheet ≡ look_of q.sheet) where
   -- have the same frame, upright or not, with any font and blink
-  pub same-frame : (upright : Bool) (font : List ℕ) (dark : Bool) (frame : List ℕ)
+  pub same_frame : (upright : Bool) (font : List ℕ) (dark : Bool) (frame : List ℕ)
       → frame_after (drawn_panel upright p) font dark frame ≡ frame_after (drawn_panel upright q) font dark frame
-  same-frame true font dark frame = in-mode-a p P font dark frame ∙ ap (λ (k : Look). frame_in k false font dark frame) e ∙ sym (in-mode-a q Q font dark frame)
-  same-frame false font dark frame = as_is p P font dark frame ∙ ap (λ (k : Look). frame_in k k.turned font dark frame) e ∙ sym (as_is q Q font dark frame)
+  same_frame true font dark frame = in_mode_a p P font dark frame ∙ ap (λ (k : Look). frame_in k false font dark frame) e ∙ sym (in_mode_a q Q font dark frame)
+  same_frame false font dark frame = as_is p P font dark frame ∙ ap (λ (k : Look). frame_in k k.turned font dark frame) e ∙ sym (as_is q Q font dark frame)
 
   -- the same codes, and so the same text
   pub same_codes : (l : ℕ) → codes_of p.sheet l ≡ codes_of q.sheet l
   same_codes l = ap (λ (k : Look). codes_of (sheet_of k) l) e
 
   -- the same cursor
-  pub same-cursor : cursor_of p.sheet.registers ≡ cursor_of q.sheet.registers
-  same-cursor = ap (λ (k : Look). k.place) e
+  pub same_cursor : cursor_of p.sheet.registers ≡ cursor_of q.sheet.registers
+  same_cursor = ap (λ (k : Look). k.place) e
 
   -- and the same written places
-  pub same-written : written_line p ≡ written_line q
-  same-written = walked p P ∙ ap (λ (k : Look). written_bytes (walkIn k)) e ∙ sym (walked q Q)
+  pub same_written : written_line p ≡ written_line q
+  same_written = walked p P ∙ ap (λ (k : Look). written_bytes (walk_in k)) e ∙ sym (walked q Q)
     where
-      walkIn : Look → ℕ
-      walkIn k = written_in display_size k.display
+      walk_in : Look → ℕ
+      walk_in k = written_in display_size k.display
 
       picked : Bool → Panel → WrittenPaper
       picked b p = pick (not b) (record { number = some 10; bits = 0 }) (record { number = none; bits = walk_of p })
@@ -130,12 +130,12 @@ module _ (p q : Panel) (P : sound_panel p ≡ true) (Q : sound_panel q ≡ true)
       walked p h = ap (λ (b : Bool). written_bytes (picked b p).bits) h
 
   -- so the same picture
-  pub same-picture : (apart pairs upright dark : Bool) (font frame : List ℕ)
+  pub same_picture : (apart pairs upright dark : Bool) (font frame : List ℕ)
       → picture_bytes apart pairs upright dark font p frame ≡ picture_bytes apart pairs upright dark font q frame
-  same-picture apart pairs upright dark font frame =
+  same_picture apart pairs upright dark font frame =
       ap (λ (k : Look). made k (frame_after (drawn_panel upright p) font dark frame) (written_line p)) e
-      ∙ ap (λ (f : List ℕ). made (look_of q.sheet) f (written_line p)) (same-frame upright font dark frame)
-      ∙ ap (λ (w : List ℕ). made (look_of q.sheet) (frame_after (drawn_panel upright q) font dark frame) w) same-written
+      ∙ ap (λ (f : List ℕ). made (look_of q.sheet) f (written_line p)) (same_frame upright font dark frame)
+      ∙ ap (λ (w : List ℕ). made (look_of q.sheet) (frame_after (drawn_panel upright q) font dark frame) w) same_written
     where
       made : Look → List ℕ → List ℕ → List ℕ
       made k f w =

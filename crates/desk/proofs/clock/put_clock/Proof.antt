@@ -1,5 +1,5 @@
 use Rattle.desk.specs.laws.ClockLaws.{clock_puts}
-use Rattle.desk.specs.laws.DigitsLaws.{part-puts}
+use Rattle.desk.specs.laws.DigitsLaws.{part_puts}
 use Rattle.std.proofs.Common.{rules}
 use Rattle.desk.proofs.clock.put_clock.Statement.{statement}
 use Rattle.desk.proofs.clock.put_clock.Tie as tie
@@ -30,7 +30,7 @@ put-requires-2 c κs = search rules
 
 returns : tie.Need-returns
 returns c =
-    let hours = part-puts _ _ _ c.before.before.before.before.before.before.before.before.before.hours-of.ensures _ _ _ _ c.before.before.before.before.put.ensures in
+    let hours = part_puts _ _ _ c.before.before.before.before.before.before.before.before.before.hours-of.ensures _ _ _ _ c.before.before.before.before.put.ensures in
     clock_puts _ _ _ _ _ _ _ hours (rw c.before.before.within-hour.ensures at c.put2.ensures)
 
 pub put_clock_spec : {M : Type 1} → statement M

@@ -1,7 +1,7 @@
 use Rattle.std.proofs.Common.{◌≡◌, ◌+◌, ◌≤◌, sym, refl, ◌∙◌, arith, rules, leb-false, leb-true}
 use Rattle.desk.specs.Page.PutsHere.{room, full}
 use Rattle.desk.specs.laws.ClockLaws.{clock_puts}
-use Rattle.desk.specs.laws.DigitsLaws.{part-pasted, part_length}
+use Rattle.desk.specs.laws.DigitsLaws.{part_pasted, part_length}
 use Rattle.desk.proofs.clock.put_clock_here.Statement.{statement}
 use Rattle.desk.proofs.clock.put_clock_here.Tie as tie
 
@@ -48,7 +48,7 @@ add-result c = let h : c.before.before.before.before.before.before.before.before
 
 returns : tie.Need-returns
 returns c =
-    let hours = part-pasted _ _ _ c.before.before.before.before.before.before.before.before.before.hours-of.ensures _ _ _ c.before.before.before.before.paste.ensures in
+    let hours = part_pasted _ _ _ c.before.before.before.before.before.before.before.before.before.hours-of.ensures _ _ _ c.before.before.before.before.paste.ensures in
     room (leb-true _ _ (sym c.before.before.before.before.before.before.before.before.before.before.before.has_room.ensures ∙ c.before.before.before.before.before.before.before.before.before.before.if1.true))
     (clock_puts _ _ _ _ _ _ _ hours (rw c.before.before.within-hour.ensures at c.paste2.ensures))
 

@@ -1,4 +1,4 @@
-use Rattle.desk.specs.laws.DigitsLaws.{part-puts}
+use Rattle.desk.specs.laws.DigitsLaws.{part_puts}
 use Rattle.std.proofs.Common.{rules}
 use Rattle.desk.proofs.clock.put_number.Statement.{statement}
 use Rattle.desk.proofs.clock.put_number.Tie as tie
@@ -19,7 +19,7 @@ put-requires : tie.Need-put-requires
 put-requires c κs = search rules
 
 returns : tie.Need-returns
-returns c = part-puts _ _ _ c.before.before.before.before.before.spelled.ensures _ _ _ _ c.put.ensures
+returns c = part_puts _ _ _ c.before.before.before.before.before.spelled.ensures _ _ _ _ c.put.ensures
 
 pub put_number_spec : {M : Type 1} → statement M
 put_number_spec =

@@ -1,6 +1,6 @@
 use Rattle.std.proofs.Common.{◌≡◌, ◌+◌, ◌≤◌, sym, refl, ◌∙◌, arith, rules, leb-false, leb-true}
 use Rattle.desk.specs.Page.PutsHere.{room, full}
-use Rattle.desk.specs.laws.DigitsLaws.{part-pasted, part_length}
+use Rattle.desk.specs.laws.DigitsLaws.{part_pasted, part_length}
 use Rattle.desk.proofs.clock.put_number_here.Statement.{statement}
 use Rattle.desk.proofs.clock.put_number_here.Tie as tie
 
@@ -34,7 +34,7 @@ sub-result c = search rules
 returns : tie.Need-returns
 returns c =
     room (leb-true _ _ (sym c.before.before.before.before.before.before.before.has_room.ensures ∙ c.before.before.before.before.before.before.if1.true))
-    (part-pasted _ _ _ c.before.before.before.before.before.spelled.ensures _ _ _ c.paste.ensures)
+    (part_pasted _ _ _ c.before.before.before.before.before.spelled.ensures _ _ _ c.paste.ensures)
 
 returns-2 : tie.Need-returns-2
 returns-2 c = full (leb-false _ _ (sym c.before.has_room.ensures ∙ c.if1.false)) refl refl

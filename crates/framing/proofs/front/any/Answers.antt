@@ -1,6 +1,6 @@
 use Rattle.std.proofs.Common.{arith, sym, ◌∙◌}
 use Rattle.framing.specs.laws.FrontLaws.{cut_size, front}
-use Rattle.framing.specs.laws.FrameLaws.{kind_bad, transfer_length_bad, reset_length_bad, cut_frame, bad-frame}
+use Rattle.framing.specs.laws.FrameLaws.{kind_bad, transfer_length_bad, reset_length_bad, cut_frame, bad_frame}
 use Rattle.framing.proofs.front.any.Goals as goal
 
 pub returns-then-size-eq0 : goal.returns-then-size-eq0
@@ -19,7 +19,7 @@ transfer-requires c =
 pub returns-then-kind-eq1 : goal.returns-then-kind-eq1
 returns-then-kind-eq1 c =
     let f = front _ _ c.whole-size.ensures c.if-size-eq0.false in
-    sym (bad-frame f (transfer_length_bad _ (omega arith) (λ e. c.if-size-eq14.false (omega arith))))
+    sym (bad_frame f (transfer_length_bad _ (omega arith) (λ e. c.if-size-eq14.false (omega arith))))
 
 pub reset-requires : goal.reset-requires
 reset-requires c =
@@ -29,9 +29,9 @@ reset-requires c =
 pub returns-else-size-eq12 : goal.returns-else-size-eq12
 returns-else-size-eq12 c =
     let f = front _ _ c.whole-size.ensures c.if-size-eq0.false in
-    sym (bad-frame f (reset_length_bad _ (omega arith) (λ e. c.if-size-eq12.false (omega arith))))
+    sym (bad_frame f (reset_length_bad _ (omega arith) (λ e. c.if-size-eq12.false (omega arith))))
 
 pub returns-else-kind-eq2 : goal.returns-else-kind-eq2
 returns-else-kind-eq2 c =
     let f = front _ _ c.whole-size.ensures c.if-size-eq0.false in
-    sym (bad-frame f (kind_bad _ (λ e. c.if-kind-eq1.false (omega arith)) (λ e. c.if-kind-eq2.false (omega arith))))
+    sym (bad_frame f (kind_bad _ (λ e. c.if-kind-eq1.false (omega arith)) (λ e. c.if-kind-eq2.false (omega arith))))

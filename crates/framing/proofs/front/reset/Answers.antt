@@ -1,11 +1,11 @@
 use Rattle.std.proofs.Common.{arith, sym}
 use Rattle.framing.specs.laws.FrontLaws.{whole_front}
-use Rattle.framing.specs.laws.FrameLaws.{time_bad, reset_good, bad-frame, reset_frame}
+use Rattle.framing.specs.laws.FrameLaws.{time_bad, reset_good, bad_frame, reset_frame}
 use Rattle.framing.proofs.front.reset.Goals as goal
 
 pub returns-then-time-ge-TIME_END : goal.returns-then-time-ge-TIME_END
 returns-then-time-ge-TIME_END c =
-    let f = whole_front c.requires (omega arith) (omega arith) in sym (bad-frame f (time_bad _ (omega arith)))
+    let f = whole_front c.requires (omega arith) (omega arith) in sym (bad_frame f (time_bad _ (omega arith)))
 
 pub returns : goal.returns
 returns c =

@@ -1,20 +1,20 @@
 use Rattle.std.proofs.Common.{arith, sym}
 use Rattle.framing.specs.laws.FrontLaws.{whole_front}
-use Rattle.framing.specs.laws.FrameLaws.{time_bad, control_bad, transfer_good, bad-frame, transfer-frame}
+use Rattle.framing.specs.laws.FrameLaws.{time_bad, control_bad, transfer_good, bad_frame, transfer_frame}
 use Rattle.framing.proofs.front.transfer.Goals as goal
 
 pub returns-then-time-ge-TIME_END : goal.returns-then-time-ge-TIME_END
 returns-then-time-ge-TIME_END c =
-    let f = whole_front c.requires (omega arith) (omega arith) in sym (bad-frame f (time_bad _ (omega arith)))
+    let f = whole_front c.requires (omega arith) (omega arith) in sym (bad_frame f (time_bad _ (omega arith)))
 
 pub returns-then-control-ge4 : goal.returns-then-control-ge4
 returns-then-control-ge4 c =
     let w = c.requires in
     let f = whole_front w (omega arith) (omega arith) in
-    sym (bad-frame f (control_bad _ w.told (omega arith)))
+    sym (bad_frame f (control_bad _ w.told (omega arith)))
 
 pub returns : goal.returns
 returns c =
     let w = c.requires in
     let f = whole_front w (omega arith) (omega arith) in
-    rw c.num64-time.ensures.is (sym (transfer-frame f w.told (transfer_good _ w.told (omega (arith, w.sized)) (omega arith) (omega arith))))
+    rw c.num64-time.ensures.is (sym (transfer_frame f w.told (transfer_good _ w.told (omega (arith, w.sized)) (omega arith) (omega arith))))

@@ -8,7 +8,7 @@ use borrow.Author.Rules.{rules}
 use borrow.Author.Tests.{eq-eqb, ne_eqb}
 use lib.ListN.{length}
 use Rattle.dots.specs.First.{first, first_dot}
-use Rattle.dots.specs.laws.FirstLaws.{first-here, first_next, first-end, rows_next, rows_end}
+use Rattle.dots.specs.laws.FirstLaws.{first_here, first_next, first_end, rows_next, rows_end}
 use Rattle.picture.specs.Frame.{glass}
 use Rattle.picture.specs.Compare.{differ, compared_of}
 use Rattle.picture.specs.laws.CompareLaws.{compares}
@@ -51,7 +51,7 @@ module _ {chip : ℕ} {a b : List ℕ} {high : ℕ} {found : Compared} where
 
   beneath : (row column : ℕ) → Seeking chip a b high found (from_dot chip a b row column) → (glass chip).cols ≤ column
       → Seeking chip a b high found (from_row chip a b (row + 1))
-  beneath row column S h = on S (S.rest ∙ first-end (differ chip a b row) (At row) (from_row chip a b (row + 1)) column (glass chip).cols h)
+  beneath row column S h = on S (S.rest ∙ first_end (differ chip a b row) (At row) (from_row chip a b (row + 1)) column (glass chip).cols h)
 
   -- and the two ends
   nowhere : (row : ℕ) → Seeking chip a b high found (from_row chip a b row) → (glass chip).rows ≤ row → found ≡ compared_of chip a b
@@ -59,7 +59,7 @@ module _ {chip : ℕ} {a b : List ℕ} {high : ℕ} {found : Compared} where
 
   there : (row column : ℕ) → Seeking chip a b high found (from_dot chip a b row column) → column < (glass chip).cols → differ chip a b row column ≡ true
       → At row column ≡ compared_of chip a b
-  there row column S h e = sym (S.rest ∙ first-here (differ chip a b row) (At row) (from_row chip a b (row + 1)) column (glass chip).cols h e)
+  there row column S h e = sym (S.rest ∙ first_here (differ chip a b row) (At row) (from_row chip a b (row + 1)) column (glass chip).cols h e)
 
 abbrev invariant-loop : tie.invariant-loop
 invariant-loop chip a b size high found₀ row column₀ found column = Seeking chip a b high found (from_dot chip a b row column) × (row < (glass chip).rows) × (column ≤ (glass chip).cols)
@@ -84,12 +84,12 @@ frame-size-requires c κs = search rules
 
 returns-2 : tie.Need-returns-2 invariant-loop decreases-loop invariant-rows decreases-rows
 returns-2 c =
-    let e = c.before.frame-size.ensures.is in
+    let e = c.before.frame_size_lem.ensures.is in
     compares _ _ _ _ (rw (← c.before.before.before.known.ensures, c.before.before.if1.false, ne_eqb _ _ (λ h. c.if2.true (h ∙ sym e))))
 
 returns-3 : tie.Need-returns-3 invariant-loop decreases-loop invariant-rows decreases-rows
 returns-3 c =
-    let e = c.before.before.frame-size.ensures.is in
+    let e = c.before.before.frame_size_lem.ensures.is in
     compares _ _ _ _ (rw (← c.before.before.before.before.known.ensures, c.before.before.before.if1.false, eq-eqb _ _ (c.before.if2.false ∙ e), ne_eqb _ _ (λ h. c.if3.true (h ∙ sym e))))
 
 rows-requires : tie.Need-rows-requires invariant-loop decreases-loop invariant-rows decreases-rows
@@ -97,7 +97,7 @@ rows-requires c κs = search rules
 
 rows-holds : tie.Need-rows-init invariant-loop decreases-loop invariant-rows decreases-rows
 rows-holds c =
-    let e = c.before.before.before.frame-size.ensures.is in
+    let e = c.before.before.before.frame_size_lem.ensures.is in
     let args = c.before.before.before.before.before.before.before.before.args in
     let la = c.before.before.if2.false ∙ e in
     let lb = c.before.if3.false ∙ e in (

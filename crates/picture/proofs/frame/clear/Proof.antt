@@ -18,7 +18,7 @@ frame-size-requires : tie.Need-frame-size-requires invariant-loop decreases-loop
 frame-size-requires c κs = search rules
 
 loop-holds : tie.Need-loop-init invariant-loop decreases-loop
-loop-holds c = (fill_start _ _ _ c.before.before.requires, c.frame-size.ensures.is)
+loop-holds c = (fill_start _ _ _ c.before.before.requires, c.frame_size_lem.ensures.is)
 
 slice-write-frame : tie.Need-slice-write-frame invariant-loop decreases-loop
 slice-write-frame c = search rules

@@ -6,8 +6,8 @@ use native.Mathlib.Omega.{arith}
 use borrow.Author.Rules.{rules}
 use lib.Bits.{bit_and, and_mask}
 use Rattle.dots.specs.engine.Cells.{put}
-use Rattle.dots.specs.laws.LandingLaws.{length-put}
-use Rattle.dots.specs.laws.ThroughLaws.{Through, through-start, through-next, through-end, through-long}
+use Rattle.dots.specs.laws.LandingLaws.{length_put}
+use Rattle.dots.specs.laws.ThroughLaws.{Through, through_start, through_next, through_end, through_long}
 use Rattle.picture.specs.Pattern.{tall}
 use Rattle.dots.specs.Landing.{Landing}
 use Rattle.picture.specs.engine.Shown.{cell_dot}
@@ -28,7 +28,7 @@ abbrev decreases-loop : tie.decreases-loop
 decreases-loop wiring frame₀ top left c rows i₀ frame i = tall - i
 
 loop-holds : tie.Need-loop-init invariant-loop decreases-loop
-loop-holds c = through-start _ _ _
+loop-holds c = through_start _ _ _
 
 array-read-v : tie.Need-array-read-v invariant-loop decreases-loop
 array-read-v c = search rules
@@ -55,7 +55,7 @@ put-dot-requires : tie.Need-put-dot-requires invariant-loop decreases-loop
 put-dot-requires c κs =
     let l = c.before.before.loop in
     let b = c.before.before.before.before in
-    (through-long _ _ _ (λ i f. length-put (wired b.args.wiring) f _ _ _) _ _ l.invariant ∙ b.requires.0, omega arith, omega arith, simp mask (omega arith))
+    (through_long _ _ _ (λ i f. length_put (wired b.args.wiring) f _ _ _) _ _ l.invariant ∙ b.requires.0, omega arith, omega arith, simp mask (omega arith))
 
 add-i : tie.Need-overflow-add-i invariant-loop decreases-loop
 add-i c = search rules
@@ -65,13 +65,13 @@ loop-less c = search rules
 
 loop-again : tie.Need-loop-preserved invariant-loop decreases-loop
 loop-again c =
-    through-next _ _ _ _ _ _ c.before.before.before.before.before.loop.invariant (omega arith) (simp mask at c.before.before.put-dot.ensures)
+    through_next _ _ _ _ _ _ c.before.before.before.before.before.loop.invariant (omega arith) (simp mask at c.before.before.put-dot.ensures)
 
 same_length : tie.Need-same-length invariant-loop decreases-loop
-same_length c = through-long _ _ _ (λ i f. length-put (wired c.before.before.before.args.wiring) f _ _ _) _ _ c.before.loop.invariant
+same_length c = through_long _ _ _ (λ i f. length_put (wired c.before.before.before.args.wiring) f _ _ _) _ _ c.before.loop.invariant
 
 returns : tie.Need-returns invariant-loop decreases-loop
-returns c = through-end _ _ _ _ _ c.before.loop.invariant (omega arith)
+returns c = through_end _ _ _ _ _ c.before.loop.invariant (omega arith)
 
 pub put_column_spec : {M : Type 1} → statement M
 put_column_spec =

@@ -6,7 +6,7 @@ use mathlib.Core.List.{List}
 use native.Mathlib.Omega.{arith}
 use borrow.Author.Rules.{rules}
 use Rattle.dots.specs.engine.Cells.{block}
-use Rattle.dots.specs.laws.ThroughLaws.{Through, through-start, through-next, through-end, through-long, length-block}
+use Rattle.dots.specs.laws.ThroughLaws.{Through, through_start, through_next, through_end, through_long, length_block}
 use Rattle.chip.specs.Sizes.{positions}
 use Rattle.chip.specs.laws.SizesLaws.{lines_few}
 use Rattle.chip.specs.declared.sheet.Sheet.{Sheet}
@@ -31,7 +31,7 @@ wiring-of-requires : tie.Need-wiring-of-requires invariant-loop decreases-loop
 wiring-of-requires c κs = search rules
 
 loop-holds : tie.Need-loop-init invariant-loop decreases-loop
-loop-holds c = through-start _ _ _
+loop-holds c = through_start _ _ _
 
 shown-requires : tie.Need-shown-requires invariant-loop decreases-loop
 shown-requires c κs = search rules
@@ -47,7 +47,7 @@ put-cell-requires c κs =
     let l = c.before.before.before.loop in
     let b = c.before.before.before.before.before.before.before in
     rw c.before.before.before.before.wiring-of.ensures
-    (through-long _ _ _ (λ p f. length-block (glass_for b.args.sheet.registers) tall wide _ _ _ f) _ _ l.invariant ∙ b.requires.0, omega (arith, b.requires.3), omega arith)
+    (through_long _ _ _ (λ p f. length_block (glass_for b.args.sheet.registers) tall wide _ _ _ f) _ _ l.invariant ∙ b.requires.0, omega (arith, b.requires.3), omega arith)
 
 add-p : tie.Need-overflow-add-p invariant-loop decreases-loop
 add-p c = search rules
@@ -61,15 +61,15 @@ loop-again c =
     let l = c.before.before.before.before.before.before.loop in
     let told = c.before.before.before.before.before.before.before.wiring-of in
     let rows = c.before.before.before.before.shown in
-    through-next _ _ _ _ _ _ l.invariant (omega arith)
+    through_next _ _ _ _ _ _ l.invariant (omega arith)
     (c.before.before.put-cell.ensures
     ∙ ap₂ (λ (w : Wiring) (shown : List ℕ). cell_put (wired w) shown (a.line * tall) (l.p * wide) l.frame) told.ensures rows.ensures)
 
 same_length : tie.Need-same-length invariant-loop decreases-loop
-same_length c = through-long _ _ _ (λ p f. length-block (glass_for c.before.before.before.before.before.args.sheet.registers) tall wide _ _ _ f) _ _ c.before.loop.invariant
+same_length c = through_long _ _ _ (λ p f. length_block (glass_for c.before.before.before.before.before.args.sheet.registers) tall wide _ _ _ f) _ _ c.before.loop.invariant
 
 returns : tie.Need-returns invariant-loop decreases-loop
-returns c = through-end _ _ _ _ _ c.before.loop.invariant (omega arith)
+returns c = through_end _ _ _ _ _ c.before.loop.invariant (omega arith)
 
 pub put_line_spec : {M : Type 1} → statement M
 put_line_spec =

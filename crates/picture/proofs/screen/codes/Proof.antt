@@ -31,7 +31,7 @@ loop-less : tie.Need-loop-smaller invariant-loop decreases-loop
 loop-less c = search rules
 
 loop-again : tie.Need-loop-preserved invariant-loop decreases-loop
-loop-again c = fill_step _ _ _ _ _ c.before.before.loop.invariant (omega arith) c.code-at.ensures
+loop-again c = fill_step _ _ _ _ _ c.before.before.loop.invariant (omega arith) c.code_at_lem.ensures
 
 returns : tie.Need-returns invariant-loop decreases-loop
 returns c = fill_end _ _ _ _ c.before.loop.invariant (omega arith)

@@ -21,7 +21,7 @@ half-fits-requires : tie.Need-half-fits-requires
 half-fits-requires c κs = search rules
 
 returns : tie.Need-returns
-returns c = rw (c.half-fits.ensures, c.before.bits_fit.ensures)
+returns c = rw (c.half_fits.ensures, c.before.bits_fit.ensures)
 
 pub fits_spec : {M : Type 1} → statement M
 fits_spec =

@@ -84,8 +84,8 @@ over-requires c κs = search rules
 returns-2 : tie.Need-returns-2 invariant-loop decreases-loop
 returns-2 c = search rules
 
-pub record-block-spec : {M : Type 1} → statement M
-record-block-spec =
+pub record_block_spec : {M : Type 1} → statement M
+record_block_spec =
     tie.close
     (tie.spec
     invariant-loop

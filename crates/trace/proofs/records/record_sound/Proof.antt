@@ -77,8 +77,8 @@ same_length c = search rules
 returns : tie.Need-returns invariant-loop decreases-loop
 returns c = search rules
 
-pub record-sound-spec : {M : Type 1} → statement M
-record-sound-spec =
+pub record_sound_spec : {M : Type 1} → statement M
+record_sound_spec =
     tie.close
     (tie.spec
     invariant-loop

@@ -6,7 +6,7 @@ use Rattle.desk.specs.Page.{Puts}
 use Rattle.desk.specs.laws.PageLaws.{puts_then}
 use Rattle.wall.specs.Beneath.{code_bytes}
 use Rattle.wall.specs.Draw.{strung}
-use Rattle.wall.specs.laws.DrawLaws.{strung-none, strung-more}
+use Rattle.wall.specs.laws.DrawLaws.{strung_none, strung_more}
 use borrow.Author.Rules.{rules}
 use Rattle.wall.proofs.codes.put_codes_line.Statement.{statement}
 use Rattle.wall.proofs.codes.put_codes_line.Tie as tie
@@ -24,7 +24,7 @@ put-requires : tie.Need-put-requires invariant-loop decreases-loop
 put-requires c κs = search rules
 
 loop-holds : tie.Need-loop-init invariant-loop decreases-loop
-loop-holds c = (strung-none _ _ _, omega arith)
+loop-holds c = (strung_none _ _ _, omega arith)
 
 array-read-hex : tie.Need-array-read-hex invariant-loop decreases-loop
 array-read-hex c = search rules
@@ -51,7 +51,7 @@ loop-less : tie.Need-loop-smaller invariant-loop decreases-loop
 loop-less c = search rules
 
 loop-again : tie.Need-loop-preserved invariant-loop decreases-loop
-loop-again c = (strung-more _ _ _ _ _ _ _ _ c.before.before.before.before.before.loop.invariant.0 (rw c.before.before.before.hex.ensures at c.put2.ensures), omega arith)
+loop-again c = (strung_more _ _ _ _ _ _ _ _ c.before.before.before.before.before.loop.invariant.0 (rw c.before.before.before.hex.ensures at c.put2.ensures), omega arith)
 
 slice-aggregate-put-3 : tie.Need-slice-aggregate-put-3 invariant-loop decreases-loop
 slice-aggregate-put-3 c = search rules

@@ -3,7 +3,7 @@ use mathlib.Core.Path.{◌≡◌}
 use native.Mathlib.Omega.{arith}
 use Rattle.desk.specs.Page.{Puts}
 use Rattle.wall.specs.Beneath.{shown_lines}
-use Rattle.wall.specs.laws.DrawLaws.{strung-none, strung-more}
+use Rattle.wall.specs.laws.DrawLaws.{strung_none, strung_more}
 use borrow.Author.Rules.{rules}
 use Rattle.wall.proofs.codes.put_shown_lines.Statement.{statement}
 use Rattle.wall.proofs.codes.put_shown_lines.Tie as tie
@@ -15,7 +15,7 @@ abbrev decreases-loop : tie.decreases-loop
 decreases-loop page₀ at sheet lines text end₀ line₀ page end line = lines - line
 
 loop-holds : tie.Need-loop-init invariant-loop decreases-loop
-loop-holds c = (strung-none _ _ _, omega arith)
+loop-holds c = (strung_none _ _ _, omega arith)
 
 codes-requires : tie.Need-codes-requires invariant-loop decreases-loop
 codes-requires c κs = search rules
@@ -30,7 +30,7 @@ loop-less : tie.Need-loop-smaller invariant-loop decreases-loop
 loop-less c = search rules
 
 loop-again : tie.Need-loop-preserved invariant-loop decreases-loop
-loop-again c = (strung-more _ _ _ _ _ _ _ _ c.before.before.before.before.loop.invariant.0 (rw c.before.codes.ensures at c.put-shown.ensures), omega arith)
+loop-again c = (strung_more _ _ _ _ _ _ _ _ c.before.before.before.before.loop.invariant.0 (rw c.before.codes.ensures at c.put-shown.ensures), omega arith)
 
 returns : tie.Need-returns invariant-loop decreases-loop
 returns c =

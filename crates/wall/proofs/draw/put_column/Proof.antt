@@ -32,7 +32,7 @@ put-requires : tie.Need-put-requires
 put-requires c κs = search rules
 
 returns-2 : tie.Need-returns-2
-returns-2 c = rw c.before.before.before.before.before.if1.false (rw (c.before.before.mark.ensures, c.before.before.before.blank-at.ensures, c.before.before.before.before.before.before.lit-drawn.ensures) at c.put.ensures)
+returns-2 c = rw c.before.before.before.before.before.if1.false (rw (c.before.before.mark.ensures, c.before.before.before.blank_at.ensures, c.before.before.before.before.before.before.lit-drawn.ensures) at c.put.ensures)
 
 pub put_column_spec : {M : Type 1} → statement M
 put_column_spec =

@@ -5,7 +5,7 @@ use Rattle.desk.specs.Page.{Puts}
 use Rattle.desk.specs.laws.PageLaws.{puts_then}
 use Rattle.wall.specs.Apart.{columns_drawn}
 use Rattle.wall.specs.Draw.{strung}
-use Rattle.wall.specs.laws.DrawLaws.{strung-none, strung-more}
+use Rattle.wall.specs.laws.DrawLaws.{strung_none, strung_more}
 use mathlib.Core.List.{[], ◌∷◌}
 use borrow.Author.Rules.{rules}
 use Rattle.wall.proofs.draw.put_edge.Statement.{statement}
@@ -27,7 +27,7 @@ put-requires : tie.Need-put-requires invariant-loop decreases-loop
 put-requires c κs = search rules
 
 loop-holds : tie.Need-loop-init invariant-loop decreases-loop
-loop-holds c = (strung-none _ _ _, omega arith)
+loop-holds c = (strung_none _ _ _, omega arith)
 
 slice-aggregate-put-2 : tie.Need-slice-aggregate-put-2 invariant-loop decreases-loop
 slice-aggregate-put-2 c = search rules
@@ -42,7 +42,7 @@ loop-less : tie.Need-loop-smaller invariant-loop decreases-loop
 loop-less c = search rules
 
 loop-again : tie.Need-loop-preserved invariant-loop decreases-loop
-loop-again c = (strung-more (λ x. 45 ∷ []) _ _ _ _ _ _ _ c.before.before.before.before.loop.invariant.0 c.put2.ensures, omega arith)
+loop-again c = (strung_more (λ x. 45 ∷ []) _ _ _ _ _ _ _ c.before.before.before.before.loop.invariant.0 c.put2.ensures, omega arith)
 
 slice-aggregate-put-3 : tie.Need-slice-aggregate-put-3 invariant-loop decreases-loop
 slice-aggregate-put-3 c = search rules

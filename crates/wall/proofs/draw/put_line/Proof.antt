@@ -5,7 +5,7 @@ use Rattle.desk.specs.Page.{Puts}
 use Rattle.desk.specs.laws.PageLaws.{puts_then}
 use Rattle.wall.specs.Apart.{columns_drawn}
 use Rattle.wall.specs.Draw.{column_bytes, strung}
-use Rattle.wall.specs.laws.DrawLaws.{strung-none, strung-more}
+use Rattle.wall.specs.laws.DrawLaws.{strung_none, strung_more}
 use borrow.Author.Rules.{rules}
 use Rattle.wall.proofs.draw.put_line.Statement.{statement}
 use Rattle.wall.proofs.draw.put_line.Tie as tie
@@ -26,7 +26,7 @@ put-requires : tie.Need-put-requires invariant-loop decreases-loop
 put-requires c κs = search rules
 
 loop-holds : tie.Need-loop-init invariant-loop decreases-loop
-loop-holds c = (strung-none _ _ _, omega arith)
+loop-holds c = (strung_none _ _ _, omega arith)
 
 put-column-requires : tie.Need-put-column-requires invariant-loop decreases-loop
 put-column-requires c κs = search rules
@@ -38,7 +38,7 @@ loop-less : tie.Need-loop-smaller invariant-loop decreases-loop
 loop-less c = search rules
 
 loop-again : tie.Need-loop-preserved invariant-loop decreases-loop
-loop-again c = (strung-more _ _ _ _ _ _ _ _ c.before.before.before.loop.invariant.0 c.put-column.ensures, omega arith)
+loop-again c = (strung_more _ _ _ _ _ _ _ _ c.before.before.before.loop.invariant.0 c.put-column.ensures, omega arith)
 
 slice-aggregate-put-2 : tie.Need-slice-aggregate-put-2 invariant-loop decreases-loop
 slice-aggregate-put-2 c = search rules

@@ -5,7 +5,7 @@ use Rattle.desk.specs.Page.{Puts}
 use Rattle.wall.specs.Apart.{rows_drawn}
 use Rattle.wall.specs.Draw.{line_bytes, lines_drawn, rows_shown, strung}
 use Rattle.wall.specs.laws.ApartLaws.{rows_few}
-use Rattle.wall.specs.laws.DrawLaws.{line_within, strung-none, strung-more}
+use Rattle.wall.specs.laws.DrawLaws.{line_within, strung_none, strung_more}
 use borrow.Author.Rules.{rules}
 use Rattle.wall.proofs.draw.put_lines.Statement.{statement}
 use Rattle.wall.proofs.draw.put_lines.Tie as tie
@@ -23,7 +23,7 @@ lines-drawn-requires : tie.Need-lines-drawn-requires invariant-loop decreases-lo
 lines-drawn-requires c κs = search rules
 
 loop-holds : tie.Need-loop-init invariant-loop decreases-loop
-loop-holds c = (strung-none _ _ _, omega arith)
+loop-holds c = (strung_none _ _ _, omega arith)
 
 mul-put-line : tie.Need-overflow-mul-put-line invariant-loop decreases-loop
 mul-put-line c =
@@ -40,7 +40,7 @@ loop-less : tie.Need-loop-smaller invariant-loop decreases-loop
 loop-less c = search rules
 
 loop-again : tie.Need-loop-preserved invariant-loop decreases-loop
-loop-again c = (strung-more _ _ _ _ _ _ _ _ c.before.before.before.loop.invariant.0 (rw c.before.before.before.before.before.rows-shown.ensures.is at c.put-line.ensures), omega arith)
+loop-again c = (strung_more _ _ _ _ _ _ _ _ c.before.before.before.loop.invariant.0 (rw c.before.before.before.before.before.rows-shown.ensures.is at c.put-line.ensures), omega arith)
 
 returns : tie.Need-returns invariant-loop decreases-loop
 returns c =

@@ -19,7 +19,7 @@ put-requires-2 : tie.Need-put-requires-2
 put-requires-2 c κs = search rules
 
 returns : tie.Need-returns
-returns c = some_then _ _ _ _ _ _ _ _ (just _ _ _ _ _ c.before.before.before.before.before.put.ensures) (some_then _ _ _ _ _ _ _ _ c.before.before.before.put-clock.ensures (just _ _ _ _ _ c.put2.ensures))
+returns c = some_then _ _ _ _ _ _ _ _ (just _ _ _ _ _ c.before.before.before.before.before.put.ensures) (some_then _ _ _ _ _ _ _ _ c.before.before.before.put_clock_lem.ensures (just _ _ _ _ _ c.put2.ensures))
 
 pub put_clock_line_spec : {M : Type 1} → statement M
 put_clock_line_spec =

@@ -23,7 +23,7 @@ put-number-requires : tie.Need-put-number-requires
 put-number-requires c κs = search rules
 
 returns : tie.Need-returns
-returns c = some_then _ _ _ _ _ _ _ _ (just _ _ _ _ _ (puts_then _ _ _ _ _ _ _ _ c.before.before.before.before.before.before.before.put.ensures (puts_then _ _ _ _ _ _ _ _ c.before.before.before.before.before.put-name.ensures c.before.before.put2.ensures))) c.put-number.ensures
+returns c = some_then _ _ _ _ _ _ _ _ (just _ _ _ _ _ (puts_then _ _ _ _ _ _ _ _ c.before.before.before.before.before.before.before.put.ensures (puts_then _ _ _ _ _ _ _ _ c.before.before.before.before.before.put-name.ensures c.before.before.put2.ensures))) c.put_number_lem.ensures
 
 pub put_count_spec : {M : Type 1} → statement M
 put_count_spec =

@@ -10,19 +10,19 @@ blank-at-requires : tie.Need-blank-at-requires
 blank-at-requires c κs = search rules
 
 returns : tie.Need-returns
-returns c = rw (← c.before.blank-at.ensures, c.if1.true) (puts_none _ _)
+returns c = rw (← c.before.blank_at.ensures, c.if1.true) (puts_none _ _)
 
 lit-drawn-requires : tie.Need-lit-drawn-requires
 lit-drawn-requires c κs = search rules
 
 returns-2 : tie.Need-returns-2
-returns-2 c = rw (← c.before.lit-drawn.ensures, ← c.before.before.before.blank-at.ensures, c.before.before.if1.false, c.if2.true) (puts_none _ _)
+returns-2 c = rw (← c.before.lit-drawn.ensures, ← c.before.before.before.blank_at.ensures, c.before.before.if1.false, c.if2.true) (puts_none _ _)
 
 put-square-requires : tie.Need-put-square-requires
 put-square-requires c κs = let a = c.before.before.before.before.before.before.args in (omega (arith, rows_few true a.chip), omega arith)
 
 returns-3 : tie.Need-returns-3
-returns-3 c = rw (← c.before.before.before.lit-drawn.ensures, ← c.before.before.before.before.before.blank-at.ensures, c.before.before.before.before.if1.false, c.before.before.if2.false) c.put-square.ensures
+returns-3 c = rw (← c.before.before.before.lit-drawn.ensures, ← c.before.before.before.before.before.blank_at.ensures, c.before.before.before.before.if1.false, c.before.before.if2.false) c.put-square.ensures
 
 pub put_dot_spec : {M : Type 1} → statement M
 put_dot_spec =

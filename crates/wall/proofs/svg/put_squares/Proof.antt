@@ -6,7 +6,7 @@ use Rattle.desk.specs.Page.{Puts}
 use Rattle.wall.specs.Apart.{rows_drawn}
 use Rattle.wall.specs.Draw.{strung}
 use Rattle.wall.specs.Svg.{row_squares}
-use Rattle.wall.specs.laws.DrawLaws.{strung-none, strung-more}
+use Rattle.wall.specs.laws.DrawLaws.{strung_none, strung_more}
 use borrow.Author.Rules.{rules}
 use Rattle.wall.proofs.svg.put_squares.Statement.{statement}
 use Rattle.wall.proofs.svg.put_squares.Tie as tie
@@ -21,7 +21,7 @@ rows-drawn-requires : tie.Need-rows-drawn-requires invariant-loop decreases-loop
 rows-drawn-requires c κs = search rules
 
 loop-holds : tie.Need-loop-init invariant-loop decreases-loop
-loop-holds c = (strung-none _ _ _, omega arith)
+loop-holds c = (strung_none _ _ _, omega arith)
 
 put-row-requires : tie.Need-put-row-requires invariant-loop decreases-loop
 put-row-requires c κs = search rules
@@ -33,7 +33,7 @@ loop-less : tie.Need-loop-smaller invariant-loop decreases-loop
 loop-less c = search rules
 
 loop-again : tie.Need-loop-preserved invariant-loop decreases-loop
-loop-again c = (strung-more _ _ _ _ _ _ _ _ c.before.before.before.loop.invariant.0 c.put-row.ensures, omega arith)
+loop-again c = (strung_more _ _ _ _ _ _ _ _ c.before.before.before.loop.invariant.0 c.put-row.ensures, omega arith)
 
 returns : tie.Need-returns invariant-loop decreases-loop
 returns c =

@@ -6,7 +6,7 @@ use Rattle.chip.specs.Sizes.{positions}
 use Rattle.desk.specs.Page.{Puts}
 use Rattle.wall.specs.Draw.{strung}
 use Rattle.wall.specs.Svg.{escaped_of}
-use Rattle.wall.specs.laws.DrawLaws.{strung-none, strung-more}
+use Rattle.wall.specs.laws.DrawLaws.{strung_none, strung_more}
 use borrow.Author.Rules.{rules}
 use Rattle.wall.proofs.svg.put_text.Statement.{statement}
 use Rattle.wall.proofs.svg.put_text.Tie as tie
@@ -21,7 +21,7 @@ characters-requires : tie.Need-characters-requires invariant-loop decreases-loop
 characters-requires c κs = search rules
 
 loop-holds : tie.Need-loop-init invariant-loop decreases-loop
-loop-holds c = (strung-none _ _ _, omega arith)
+loop-holds c = (strung_none _ _ _, omega arith)
 
 array-read-put-escaped : tie.Need-array-read-put-escaped invariant-loop decreases-loop
 array-read-put-escaped c = search rules
@@ -36,7 +36,7 @@ loop-less : tie.Need-loop-smaller invariant-loop decreases-loop
 loop-less c = search rules
 
 loop-again : tie.Need-loop-preserved invariant-loop decreases-loop
-loop-again c = (strung-more _ _ _ _ _ _ _ _ c.before.before.before.loop.invariant.0 c.put-escaped.ensures, omega arith)
+loop-again c = (strung_more _ _ _ _ _ _ _ _ c.before.before.before.loop.invariant.0 c.put-escaped.ensures, omega arith)
 
 returns : tie.Need-returns invariant-loop decreases-loop
 returns c =

@@ -5,7 +5,7 @@ use Rattle.chip.specs.Sizes.{display_size}
 use Rattle.desk.specs.Page.{Puts}
 use Rattle.wall.specs.Draw.{strung}
 use Rattle.wall.specs.Written.{place_bytes}
-use Rattle.wall.specs.laws.DrawLaws.{strung-none, strung-more}
+use Rattle.wall.specs.laws.DrawLaws.{strung_none, strung_more}
 use borrow.Author.Rules.{rules}
 use Rattle.wall.proofs.written.put_each.Statement.{statement}
 use Rattle.wall.proofs.written.put_each.Tie as tie
@@ -17,7 +17,7 @@ abbrev decreases-loop : tie.decreases-loop
 decreases-loop page₀ at bits end₀ place₀ page end place = display_size - place
 
 loop-holds : tie.Need-loop-init invariant-loop decreases-loop
-loop-holds c = (strung-none _ _ _, omega arith)
+loop-holds c = (strung_none _ _ _, omega arith)
 
 put-place-requires : tie.Need-put-place-requires invariant-loop decreases-loop
 put-place-requires c κs = search rules
@@ -29,7 +29,7 @@ loop-less : tie.Need-loop-smaller invariant-loop decreases-loop
 loop-less c = search rules
 
 loop-again : tie.Need-loop-preserved invariant-loop decreases-loop
-loop-again c = (strung-more _ _ _ _ _ _ _ _ c.before.before.before.loop.invariant.0 c.put-place.ensures, omega arith)
+loop-again c = (strung_more _ _ _ _ _ _ _ _ c.before.before.before.loop.invariant.0 c.put-place.ensures, omega arith)
 
 returns : tie.Need-returns invariant-loop decreases-loop
 returns c =
