@@ -18,7 +18,7 @@ use Rattle.mirror.specs.declared.panel.Panel.{Panel}
 use Rattle.mirror.specs.declared.record.Recorded.{Recorded}
 use Rattle.striking.specs.Machine.{goes, strikes, leaves, sorted, Machine}
 use Rattle.striking.specs.Duties.{Turn, KeeperStays, Laws}
-use Rattle.striking.specs.laws.Instances.{through_laws}
+use Rattle.striking.proofs.laws.Instances.{through_laws}
 use Rattle.demands.specs.Mirrors.{Response, out_of, sort_for, settled_panel, machine_of}
 use Rattle.demands.specs.laws.EngineLaws.{engine}
 use Rattle.demands.specs.Replay.{carried}

@@ -18,7 +18,7 @@ use Rattle.mirror.specs.declared.panel.Panel.{Panel}
 use Rattle.striking.specs.Machine.{Sort, Answered, events, run, final}
 use Rattle.striking.specs.Striking.{remains, unstruck, struck, Struck}
 use Rattle.striking.specs.Striking.{kept_by as kept}
-use Rattle.striking.specs.laws.StrikingLaws.{striking}
+use Rattle.striking.proofs.laws.StrikingLaws.{striking}
 use Rattle.demands.specs.Mirrors.{Response, Mirror, ours, sort_for, settled_panel, machine_of}
 use Rattle.demands.specs.Answers.{answers_by, panel_by}
 use Rattle.demands.specs.laws.EngineLaws.{engine, same_run, same_final, same_answers, same_panel}

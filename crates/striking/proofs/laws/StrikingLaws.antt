@@ -5,7 +5,7 @@ use Rattle.std.proofs.Common.{◌∙◌}
 use mathlib.Core.List.{List, [], ◌∷◌, Sublistᴰ}
 use Rattle.laws.specs.Pick.{pick}
 use Rattle.striking.specs.Machine.{Own, stays, goes, waits, Others, keeps, strikes, leaves, Sort, Out, Machine, Answered, answered, events, run, final}
-use Rattle.striking.specs.laws.MachineLaws.{run_events}
+use Rattle.striking.proofs.laws.MachineLaws.{run_events}
 use Rattle.striking.specs.Striking.{settled, remains, sort_of, kept_by, unstruck, Struck}
 use Rattle.striking.specs.Duties.{if_kept, if_struck, KeeperStays, Follows, Laws}
 

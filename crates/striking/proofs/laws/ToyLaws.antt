@@ -3,8 +3,8 @@ use Rattle.std.specs.Prelude.{ℕ, ◌+◌, ◌*◌, ◌≤◌, ◌≡◌, refl,
 use Rattle.std.proofs.Common.{arith, le_refl, sym, subst, le-ltb, ltb-false}
 use Rattle.striking.specs.Striking.{struck, Struck}
 use Rattle.striking.specs.Duties.{Turn, KeeperStays, Laws}
-use Rattle.striking.specs.laws.StrikingLaws.{striking}
-use Rattle.striking.specs.laws.Instances.{by_test}
+use Rattle.striking.proofs.laws.StrikingLaws.{striking}
+use Rattle.striking.proofs.laws.Instances.{by_test}
 use Rattle.striking.specs.cases.Toy.{Gathered, none, one, two, Toy, toy, fresh, Event, digit, put, look, release, Answer, held, back, dropped, taken, seen, step, sort, machine}
 
 -- with the digits kept or without them, and the clock perhaps behind
