@@ -6,4 +6,3 @@ pub mod Written
 pub mod Step
 pub mod Sound
 pub mod Regardless
-pub mod laws

@@ -7,5 +7,4 @@ pub mod Rules
 pub mod PictureRules
 pub mod Unknown
 pub mod Unique
-pub mod laws
 pub mod cases

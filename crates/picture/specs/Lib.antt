@@ -6,5 +6,4 @@ pub mod Picture
 pub mod Paint
 pub mod Compare
 pub mod engine
-pub mod laws
 pub mod cases

@@ -18,7 +18,7 @@ use Rattle.demands.specs.Mirrors.{Response, Mirror, ours}
 use Rattle.demands.specs.Answers.{answers_by, panel_by}
 use Rattle.demands.specs.Replay.{carried_all, taken_of, Replays}
 use Rattle.demands.specs.Rules.{IgnoresBusy, DoesSteps, Counter, Counts, AddsUp}
-use Rattle.demands.specs.laws.RulesLaws.{ignores_busy}
+use Rattle.demands.proofs.laws.RulesLaws.{ignores_busy}
 use Rattle.demands.specs.cases.Logs.{answering, instruct_at, write_at, case_panel, typed, proper}
 
 -- ONE THAT ANSWERS THE SAME FOR ALL, whatever it does to the panel. The busy rule: 57h as data at 0 is not ignored; after Clear at 100,

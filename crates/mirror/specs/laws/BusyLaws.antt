@@ -8,7 +8,7 @@ use Rattle.framing.specs.Frame.{time_of, data_of, rs_of, rw_of, is_transfer, cut
 use Rattle.framing.specs.laws.FrontLaws.{or_left, or_right}
 use Rattle.framing.specs.Frames.{frames}
 use Rattle.chip.specs.Step.{obeyed, written, passed}
-use Rattle.chip.specs.laws.WidthLaws.{obeyed_width, written_width}
+use Rattle.chip.proofs.laws.WidthLaws.{obeyed_width, written_width}
 use Rattle.mirror.specs.Panel.{fresh_panel, half_fits, sound_panel}
 use Rattle.mirror.specs.Words.{joined_of, free}
 use Rattle.mirror.specs.laws.SoundParts.{parts, whole}

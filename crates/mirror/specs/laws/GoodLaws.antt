@@ -5,7 +5,7 @@ use Rattle.std.proofs.lemmas.Bool.{false≢true, eqb-false}
 use Rattle.laws.specs.Pick.{pick}
 use Rattle.framing.specs.Frame.{time_of, rs_of, rw_of, is_transfer, is_reset, cut_at, bad_at}
 use Rattle.chip.specs.Step.{obeyed, written, passed}
-use Rattle.chip.specs.laws.GoodLaws.{low_doubtful, move_good, shift_leaves, function_doubtful, set_good, write_doubtful, read_good}
+use Rattle.chip.proofs.laws.GoodLaws.{low_doubtful, move_good, shift_leaves, function_doubtful, set_good, write_doubtful, read_good}
 use Rattle.chip.specs.declared.sheet.Sheet.{Sheet}
 use Rattle.mirror.specs.Answer.{carried_out}
 use Rattle.mirror.specs.Panel.{sound_panel}

@@ -7,7 +7,7 @@ use Rattle.laws.specs.Pick.{pick}
 use Rattle.framing.specs.Frame.{kind_of, time_of, rs_of, rw_of, is_transfer, is_reset}
 use Rattle.chip.specs.Sheet.{fresh_sheet}
 use Rattle.chip.specs.Step.{obeyed, written, passed}
-use Rattle.chip.specs.laws.ChipLaws.{obeyed_chip, written_chip, passed_chip}
+use Rattle.chip.proofs.laws.ChipLaws.{obeyed_chip, written_chip, passed_chip}
 use Rattle.chip.specs.declared.sheet.Sheet.{Sheet}
 use Rattle.mirror.specs.Answer.{carried_out}
 use Rattle.mirror.specs.Words.{holding, done}

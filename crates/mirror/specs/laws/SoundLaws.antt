@@ -8,7 +8,7 @@ use Rattle.framing.specs.laws.FrameLaws.{time_bad}
 use Rattle.chip.specs.Sheet.{fresh_sheet}
 use Rattle.chip.specs.Step.{obeyed, written, passed}
 use Rattle.chip.specs.Sizes.{is_known}
-use Rattle.chip.specs.laws.SoundLaws as steps
+use Rattle.chip.proofs.laws.SoundLaws as steps
 use Rattle.mirror.specs.Panel.{fresh_panel, half_fits, time_end, sound_panel}
 use Rattle.mirror.specs.Words.{free, holding, done}
 use Rattle.mirror.specs.laws.SoundParts.{Sound, parts, whole}

@@ -5,7 +5,7 @@ use Rattle.std.proofs.lemmas.Bool.{not-false, lt-leb}
 use Rattle.laws.specs.Pick.{pick}
 use Rattle.laws.specs.laws.PickLaws.{past}
 use Rattle.chip.specs.Sound.{sound_sheet}
-use Rattle.chip.specs.laws.SoundLaws as chip
+use Rattle.chip.proofs.laws.SoundLaws as chip
 use Rattle.mirror.specs.Panel.{half_fits, time_end, sound_panel}
 use Rattle.mirror.specs.declared.panel.Panel.{Panel}
 

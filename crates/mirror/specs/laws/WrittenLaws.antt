@@ -7,8 +7,8 @@ use Rattle.laws.specs.laws.BitLaws.{with_bit_lem}
 use Rattle.chip.specs.Sizes.{places_of, display_size}
 use Rattle.chip.specs.Written.{unblank, is_written}
 use Rattle.chip.specs.Step.{obeyed, written, written_at, passed}
-use Rattle.chip.specs.laws.StepLaws.{written_as}
-use Rattle.chip.specs.laws.WrittenLaws.{walk_bit, past_unwritten, display_write_marks, pattern_write_leaves, read_leaves, clear_unwrites, code_leaves}
+use Rattle.chip.proofs.laws.StepLaws.{written_as}
+use Rattle.chip.proofs.laws.WrittenLaws.{walk_bit, past_unwritten, display_write_marks, pattern_write_leaves, read_leaves, clear_unwrites, code_leaves}
 use Rattle.chip.specs.declared.address.Address.{Address}
 use Rattle.chip.specs.declared.sheet.Sheet.{Sheet}
 use Rattle.mirror.specs.Panel.{sound_panel}

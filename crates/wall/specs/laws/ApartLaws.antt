@@ -4,7 +4,7 @@ use Rattle.std.proofs.Common.{div-add-mod', mod-lt, mul-add, mul-le-mul_right, a
 use Rattle.std.proofs.lemmas.Bool.{lt-leb}
 use Rattle.dots.specs.laws.PartsLaws.{part_back, part_of, place_back, place_in}
 use Rattle.chip.specs.Sizes.{lines_of, most_lines}
-use Rattle.chip.specs.laws.SizesLaws.{lines_few}
+use Rattle.chip.proofs.laws.SizesLaws.{lines_few}
 use Rattle.picture.specs.Pattern.{tall}
 use Rattle.wall.specs.Apart.{gap_of, span_of, is_gap, dot_at, rows_drawn}
 

@@ -24,7 +24,7 @@ use Rattle.picture.specs.Picture.{codes_of, pattern_dot, cursor_row, lit}
 use Rattle.picture.specs.Paint.{frame_after}
 use Rattle.picture.specs.declared.cursor.Cursor.{Cursor}
 use Rattle.picture.specs.declared.cursor.Cursor.TheVariants.{Off, At}
-use Rattle.picture.specs.laws.ModeLaws.{upright_mode, upright_sound}
+use Rattle.picture.proofs.laws.ModeLaws.{upright_mode, upright_sound}
 use Rattle.wall.specs.Beneath.{cursor_line, picture_bytes, shown_lines}
 use Rattle.wall.specs.Draw.{drawing_bytes, drawn_panel}
 use Rattle.wall.specs.Look.{Alike, look_of}

@@ -7,7 +7,7 @@ use Rattle.laws.specs.Bit.{one}
 use Rattle.text.specs.Hex.{hex_of}
 use Rattle.chip.specs.Sizes.{display_size}
 use Rattle.chip.specs.Written.{is_written}
-use Rattle.chip.specs.laws.WrittenLaws.{walk_bit}
+use Rattle.chip.proofs.laws.WrittenLaws.{walk_bit}
 use Rattle.mirror.specs.Panel.{sound_panel}
 use Rattle.mirror.specs.Written.{WrittenPaper, walk_of, written_for}
 use Rattle.mirror.specs.declared.panel.Panel.{Panel}

@@ -1,6 +1,6 @@
 use Rattle.std.proofs.Common.{rules, arith, eq-eqb, ne_eqb}
 use Rattle.chip.specs.Written.{unblank}
-use Rattle.chip.specs.laws.SoundLaws.{faultless_here, faultless_end}
+use Rattle.chip.proofs.laws.SoundLaws.{faultless_here, faultless_end}
 use Rattle.chip.proofs.sheet.blank_past.Goals as goal
 
 pub loop-i-init : goal.loop-i-init

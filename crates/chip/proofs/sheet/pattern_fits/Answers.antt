@@ -1,7 +1,7 @@
 use Rattle.std.proofs.Common.{rules, arith, refl, le-leb}
 use borrow.Author.Tests.{lt-leb}
 use Rattle.chip.specs.Sound.{six_bits}
-use Rattle.chip.specs.laws.SoundLaws.{faultless_here, faultless_end}
+use Rattle.chip.proofs.laws.SoundLaws.{faultless_here, faultless_end}
 use Rattle.chip.proofs.sheet.pattern_fits.Goals as goal
 
 pub loop-i-init : goal.loop-i-init

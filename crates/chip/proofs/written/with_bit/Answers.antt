@@ -6,7 +6,7 @@ use lib.Pow.{shl_exact}
 use Rattle.laws.specs.Bit.{one}
 use Rattle.laws.specs.laws.BitLaws.{one_lt, bit_anew}
 use Rattle.chip.specs.Sizes.{display_size}
-use Rattle.chip.specs.laws.WrittenLaws as bits
+use Rattle.chip.proofs.laws.WrittenLaws as bits
 use Rattle.chip.proofs.written.with_bit.Goals as goal
 
 -- what is shifted stays in the number

@@ -3,7 +3,7 @@ use mir.Val.{bool_byte}
 use Rattle.laws.specs.Bit.{pack}
 use Rattle.chip.specs.Sizes.{display_size}
 use Rattle.chip.specs.Written.{unblank, written_in}
-use Rattle.chip.specs.laws.WrittenLaws.{cast_bit, walk_here, walk_lt}
+use Rattle.chip.proofs.laws.WrittenLaws.{cast_bit, walk_here, walk_lt}
 use Rattle.chip.proofs.written.written_in.Goals as goal
 
 -- past the last place there is nothing

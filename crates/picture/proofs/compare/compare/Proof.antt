@@ -11,7 +11,7 @@ use Rattle.dots.specs.First.{first, first_dot}
 use Rattle.dots.specs.laws.FirstLaws.{first_here, first_next, first_end, rows_next, rows_end}
 use Rattle.picture.specs.Frame.{glass}
 use Rattle.picture.specs.Compare.{differ, compared_of}
-use Rattle.picture.specs.laws.CompareLaws.{compares}
+use Rattle.picture.proofs.laws.CompareLaws.{compares}
 use Rattle.picture.specs.declared.compare.Compared.{Compared}
 use Rattle.picture.specs.declared.compare.Compared.TheVariants.{At, Same}
 use Rattle.picture.proofs.compare.compare.Statement.{statement}

@@ -1,4 +1,4 @@
-use Rattle.chip.specs.laws.SizesLaws.{lines_some}
+use Rattle.chip.proofs.laws.SizesLaws.{lines_some}
 use borrow.Author.Rules.{rules}
 use Rattle.picture.proofs.cursor.line.Statement.{statement}
 use Rattle.picture.proofs.cursor.line.Tie as tie

@@ -1,6 +1,6 @@
 use mathlib.Core.Path.{refl}
 use native.Mathlib.Omega.{arith}
-use Rattle.chip.specs.laws.SizesLaws.{lines_few}
+use Rattle.chip.proofs.laws.SizesLaws.{lines_few}
 use borrow.Author.Rules.{rules}
 use Rattle.picture.proofs.frame.landing.Statement.{statement}
 use Rattle.picture.proofs.frame.landing.Tie as tie

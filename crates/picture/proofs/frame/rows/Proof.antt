@@ -1,5 +1,5 @@
 use native.Mathlib.Omega.{arith}
-use Rattle.chip.specs.laws.SizesLaws.{lines_few}
+use Rattle.chip.proofs.laws.SizesLaws.{lines_few}
 use mathlib.Core.Path.{refl}
 use borrow.Author.Rules.{rules}
 use Rattle.picture.proofs.frame.rows.Statement.{statement}

@@ -2,7 +2,7 @@
 use mathlib.Core.Path.{sym, ap, ◌∙◌}
 use mathlib.Core.Bool.{not}
 use borrow.Author.Rules.{rules}
-use Rattle.picture.specs.laws.PaintLaws.{paints_unsound, paints_font, paints_size, paints_lines}
+use Rattle.picture.proofs.laws.PaintLaws.{paints_unsound, paints_font, paints_size, paints_lines}
 use Rattle.picture.proofs.paint.paint.Statement.{statement}
 use Rattle.picture.proofs.paint.paint.Tie as tie
 

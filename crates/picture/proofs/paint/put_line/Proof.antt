@@ -8,7 +8,7 @@ use borrow.Author.Rules.{rules}
 use Rattle.dots.specs.engine.Cells.{block}
 use Rattle.dots.specs.laws.ThroughLaws.{Through, through_start, through_next, through_end, through_long, length_block}
 use Rattle.chip.specs.Sizes.{positions}
-use Rattle.chip.specs.laws.SizesLaws.{lines_few}
+use Rattle.chip.proofs.laws.SizesLaws.{lines_few}
 use Rattle.chip.specs.declared.sheet.Sheet.{Sheet}
 use Rattle.picture.specs.Pattern.{tall, wide}
 use Rattle.picture.specs.Mode.{glass_for}

@@ -5,7 +5,7 @@ use native.Mathlib.Omega.{arith}
 use borrow.Author.Rules.{rules}
 use Rattle.dots.specs.laws.ThroughLaws.{Through, through_start, through_next, through_end, through_long, length_line}
 use Rattle.chip.specs.Sizes.{lines_of, positions}
-use Rattle.chip.specs.laws.SizesLaws.{lines_few}
+use Rattle.chip.proofs.laws.SizesLaws.{lines_few}
 use Rattle.picture.specs.Pattern.{tall, wide, patterns_of}
 use Rattle.picture.specs.Mode.{glass_for}
 use Rattle.picture.specs.engine.Shown.{line_put}

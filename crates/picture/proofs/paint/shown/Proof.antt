@@ -6,7 +6,7 @@ use mathlib.Core.List.{List}
 use lib.ListN.{set}
 use Rattle.picture.specs.Picture.{cursor_row, shape_at}
 use Rattle.picture.specs.engine.Shown.{full}
-use Rattle.picture.specs.laws.ShownLaws.{shape_from_lem, shown_off, shown_away, shown_blink, shown_under, shown_bare}
+use Rattle.picture.proofs.laws.ShownLaws.{shape_from_lem, shown_off, shown_away, shown_blink, shown_under, shown_bare}
 use borrow.Author.Rules.{rules}
 use Rattle.picture.proofs.paint.shown.Statement.{statement}
 use Rattle.picture.proofs.paint.shown.Tie as tie

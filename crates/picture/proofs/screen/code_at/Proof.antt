@@ -6,7 +6,7 @@ use native.Mathlib.Omega.{arith}
 use lib.ListN.{get_or}
 use Rattle.dots.specs.laws.PartsLaws.{part_round}
 use Rattle.chip.specs.Sizes.{lines_of, most_lines, positions, places_of}
-use Rattle.chip.specs.laws.SizesLaws.{lines_some, lines_few}
+use Rattle.chip.proofs.laws.SizesLaws.{lines_some, lines_few}
 use borrow.Author.Rules.{rules}
 use Rattle.picture.proofs.screen.code_at.Statement.{statement}
 use Rattle.picture.proofs.screen.code_at.Tie as tie

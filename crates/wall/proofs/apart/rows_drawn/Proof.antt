@@ -1,6 +1,6 @@
 use mathlib.Core.Path.{refl}
 use native.Mathlib.Omega.{arith}
-use Rattle.chip.specs.laws.SizesLaws.{lines_few, lines_some}
+use Rattle.chip.proofs.laws.SizesLaws.{lines_few, lines_some}
 use Rattle.wall.specs.laws.ApartLaws.{gaps_few, rows_few}
 use borrow.Author.Rules.{rules}
 use Rattle.wall.proofs.apart.rows_drawn.Statement.{statement}

@@ -1,6 +1,6 @@
 use Prim.Native.Nat.{◌-◌, ◌≤◌}
 use native.Mathlib.Omega.{arith}
-use Rattle.chip.specs.laws.SizesLaws.{lines_few}
+use Rattle.chip.proofs.laws.SizesLaws.{lines_few}
 use borrow.Author.Rules.{rules}
 use Rattle.wall.proofs.svg.put_captions.Statement.{statement}
 use Rattle.wall.proofs.svg.put_captions.Tie as tie

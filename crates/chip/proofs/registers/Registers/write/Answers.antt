@@ -1,7 +1,7 @@
 use Rattle.std.proofs.Common.{ap, ◌∙◌, false}
 use Rattle.chip.specs.Sheet.{sheet_of}
 use Rattle.chip.specs.Step.{stepped, next_good, marked_at, followed}
-use Rattle.chip.specs.laws.StepLaws.{written_as}
+use Rattle.chip.proofs.laws.StepLaws.{written_as}
 use Rattle.chip.proofs.registers.Registers.write.Goals as goal
 
 pub returns-in-Display : goal.returns-in-Display

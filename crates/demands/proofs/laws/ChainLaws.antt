@@ -35,8 +35,8 @@ use Rattle.mirror.specs.declared.stream.Reply.TheVariants.{More, Cut}
 use Rattle.striking.specs.Machine.{run, final}
 use Rattle.demands.specs.Mirrors.{Response, out_of, machine_of}
 use Rattle.demands.specs.Answers.{answers_by, panel_by}
-use Rattle.demands.specs.laws.EngineLaws.{engine, same_answers, same_panel}
-use Rattle.demands.specs.laws.AnswersLaws.{onward_panel, of_run}
+use Rattle.demands.proofs.laws.EngineLaws.{engine, same_answers, same_panel}
+use Rattle.demands.proofs.laws.AnswersLaws.{onward_panel, of_run}
 use Rattle.demands.specs.Chain.{told, calls_of, left_of, tells, Asked, fed_all, Chain, OneChain}
 use Rattle.demands.specs.Chain.Asked.{started as begun, asked, ended}
 

@@ -6,9 +6,9 @@ use Rattle.chip.specs.Sizes.{places_of, pattern_size, function_end}
 use Rattle.chip.specs.Address.{display, pattern}
 use Rattle.chip.specs.Instruction.{is_set, unset, decoded}
 use Rattle.chip.specs.Step.{acted, obeyed, written_at, written}
-use Rattle.chip.specs.laws.CodeLaws.{Keeps, either, kept, high_code}
-use Rattle.chip.specs.laws.CodeLaws.Keeps.{keeps}
-use Rattle.chip.specs.laws.StepLaws.{pattern_write_keeps, display_write_keeps}
+use Rattle.chip.proofs.laws.CodeLaws.{Keeps, either, kept, high_code}
+use Rattle.chip.proofs.laws.CodeLaws.Keeps.{keeps}
+use Rattle.chip.proofs.laws.StepLaws.{pattern_write_keeps, display_write_keeps}
 use Rattle.chip.specs.declared.address.Address.{Address}
 use Rattle.chip.specs.declared.address.Address.TheVariants.{Display, Pattern}
 use Rattle.chip.specs.declared.instruction.Instruction.{Instruction}

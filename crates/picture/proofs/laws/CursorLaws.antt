@@ -4,7 +4,7 @@ use Rattle.std.proofs.Common.{sym, ap, ◌∙◌, mod-lt, mod-eq_of_lt, div-add-
 use Rattle.laws.specs.Pick.{pick}
 use Rattle.dots.specs.laws.PartsLaws.{place_in, part_round}
 use Rattle.chip.specs.Sizes.{lines_of, two_lines, positions, places_of, pattern_size}
-use Rattle.chip.specs.laws.SizesLaws.{lines_some}
+use Rattle.chip.proofs.laws.SizesLaws.{lines_some}
 use Rattle.chip.specs.Address.{address_number, display}
 use Rattle.chip.specs.declared.address.Address.{Address}
 use Rattle.chip.specs.declared.address.Address.TheVariants.{Display, Pattern}

@@ -19,11 +19,11 @@ use Rattle.mirror.specs.declared.panel.Panel.{Panel}
 use Rattle.mirror.specs.declared.record.Recorded.{Recorded}
 use Rattle.striking.specs.Machine.{run, final}
 use Rattle.demands.specs.Mirrors.{ours, machine_of}
-use Rattle.demands.specs.laws.EngineLaws.{engine, same_answers, same_panel}
+use Rattle.demands.proofs.laws.EngineLaws.{engine, same_answers, same_panel}
 use Rattle.demands.specs.Answers.{answers_by, panel_by}
-use Rattle.demands.specs.laws.AnswersLaws.{of_run}
+use Rattle.demands.proofs.laws.AnswersLaws.{of_run}
 use Rattle.demands.specs.Replay.{Entry, carried, carried_all, ReplayHalf, none, held, joined_with, entry_of, entries_by, first_after, taken_from, taken_of, Replays, AllSomething}
-use Rattle.demands.specs.laws.Ways.{taken, doubtful, status, ignored, torn, nothing, back, bad, cut, Narrow, Fits, Goes, acts, drops, misses, begins, Came, stands, restarts, transfers, came}
+use Rattle.demands.proofs.laws.Ways.{taken, doubtful, status, ignored, torn, nothing, back, bad, cut, Narrow, Fits, Goes, acts, drops, misses, begins, Came, stands, restarts, transfers, came}
 
 -- the half that waits in the panel is the one read off the answers
 data Agree : ReplayHalf → Bool → Half → Type 0 where

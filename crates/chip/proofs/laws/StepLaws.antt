@@ -4,7 +4,7 @@ use Rattle.std.proofs.Common.{sym, ap, ◌∙◌, arith, mod-lt, get_or-set_same
 use Rattle.std.proofs.Math.Nat.{mod-mod}
 use Rattle.chip.specs.Sizes.{places_of, display_size, pattern_size, row_end}
 use Rattle.chip.specs.Address.{read_display, written_display, read_pattern, written_pattern, address_number}
-use Rattle.chip.specs.laws.SizesLaws.{places}
+use Rattle.chip.proofs.laws.SizesLaws.{places}
 use Rattle.chip.specs.Step.{homed, cleared, entered, screen_set, stepped, shifted, function_set, address_set, next_good, stored_at, followed, written_at, written, passed}
 use Rattle.chip.specs.declared.address.DisplayAddress.{DisplayAddress}
 use Rattle.chip.specs.declared.address.PatternAddress.{PatternAddress}

@@ -14,7 +14,7 @@ use Rattle.mirror.specs.declared.totals.Totals.{Totals}
 use Rattle.striking.specs.Machine.{run, final}
 use Rattle.demands.specs.Mirrors.{ours, machine_of}
 use Rattle.demands.specs.Answers.{counts_of, OfRun}
-use Rattle.demands.specs.laws.EngineLaws.{engine, same_answers, same_panel}
+use Rattle.demands.proofs.laws.EngineLaws.{engine, same_answers, same_panel}
 
 -- a run's records one after another are the answers
 pub onward_panel : (t : Totals) (fs : List (List ℕ)) → (onward t fs).panel ≡ final (machine_of engine) t.panel fs

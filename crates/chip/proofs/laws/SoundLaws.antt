@@ -14,8 +14,8 @@ use Rattle.chip.specs.Instruction.{is_set, unset, decoded}
 use Rattle.chip.specs.Step.{homed, cleared, entered, screen_set, stepped, shifted, function_set, address_set, next_good, acted, obeyed, stored_at, followed, shifts_at, written, passed}
 use Rattle.chip.specs.Written.{unblank, is_written, written_in}
 use Rattle.chip.specs.Sound.{address_fits, faultless, six_bits, blank_past, pattern_fits, sound_sheet}
-use Rattle.chip.specs.laws.SizesLaws.{places}
-use Rattle.chip.specs.laws.WrittenLaws.{walk_stored, walk_blank}
+use Rattle.chip.proofs.laws.SizesLaws.{places}
+use Rattle.chip.proofs.laws.WrittenLaws.{walk_stored, walk_blank}
 use Rattle.chip.specs.declared.address.Address.{Address}
 use Rattle.chip.specs.declared.address.Address.TheVariants.{Display, Pattern}
 use Rattle.chip.specs.declared.instruction.Instruction.{Instruction}

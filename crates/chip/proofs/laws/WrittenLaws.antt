@@ -13,9 +13,9 @@ use Rattle.chip.specs.Instruction.{is_set, unset, decoded}
 use Rattle.chip.specs.Written.{unblank, is_written, written_in}
 use Rattle.chip.specs.Step.{obeyed, stored_display, stored_at, stepped, next_good, followed, written_at, passed}
 use Rattle.chip.specs.Sound.{faultless, blank_past}
-use Rattle.chip.specs.laws.SizesLaws.{place_below}
-use Rattle.chip.specs.laws.CodeLaws.{Keeps, either, kept}
-use Rattle.chip.specs.laws.CodeLaws.Keeps.{keeps}
+use Rattle.chip.proofs.laws.SizesLaws.{place_below}
+use Rattle.chip.proofs.laws.CodeLaws.{Keeps, either, kept}
+use Rattle.chip.proofs.laws.CodeLaws.Keeps.{keeps}
 use Rattle.chip.specs.declared.address.DisplayAddress.{DisplayAddress}
 use Rattle.chip.specs.declared.address.PatternAddress.{PatternAddress}
 use Rattle.chip.specs.declared.address.Address.TheVariants.{Display, Pattern}

@@ -21,10 +21,10 @@ use Rattle.striking.specs.Striking.{kept_by as kept}
 use Rattle.striking.proofs.laws.StrikingLaws.{striking}
 use Rattle.demands.specs.Mirrors.{Response, Mirror, ours, sort_for, settled_panel, machine_of}
 use Rattle.demands.specs.Answers.{answers_by, panel_by}
-use Rattle.demands.specs.laws.EngineLaws.{engine, same_run, same_final, same_answers, same_panel}
-use Rattle.demands.specs.laws.AnswersLaws.{of_engine, of_run}
+use Rattle.demands.proofs.laws.EngineLaws.{engine, same_run, same_final, same_answers, same_panel}
+use Rattle.demands.proofs.laws.AnswersLaws.{of_engine, of_run}
 use Rattle.demands.specs.Striking.{stayed, struck_log, StruckFrom, Strikes, SameRun, takens, TakenOrHeld}
-use Rattle.demands.specs.laws.MirrorLaws.{mirror_laws}
+use Rattle.demands.proofs.laws.MirrorLaws.{mirror_laws}
 
 -- What goes and what stays, of any mirror
 abbrev told : List ℕ → Answer → ℕ → Answered (List ℕ) Response

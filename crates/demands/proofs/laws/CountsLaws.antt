@@ -26,9 +26,9 @@ use Rattle.mirror.specs.declared.panel.Panel.{Panel}
 use Rattle.mirror.specs.declared.record.Recorded.{Recorded}
 use Rattle.striking.specs.Machine.{Answered, run}
 use Rattle.demands.specs.Mirrors.{Response, Mirror, ours, machine_of}
-use Rattle.demands.specs.laws.EngineLaws.{engine}
+use Rattle.demands.proofs.laws.EngineLaws.{engine}
 use Rattle.demands.specs.Answers.{answers_by, counts_of, numbers, OfRun}
-use Rattle.demands.specs.laws.AnswersLaws.{of_engine, of_run}
+use Rattle.demands.proofs.laws.AnswersLaws.{of_engine, of_run}
 use Rattle.demands.specs.Rules.{occurrences, InMemory, Counts, CountsRecords, AddsUp}
 
 -- EACH COUNT. The number whose count stands at a place

@@ -19,7 +19,7 @@ use Rattle.picture.specs.Mode.{mode_b, row_turn, column_turn, glass_for}
 use Rattle.chip.specs.Sizes.{lines_of, positions}
 use Rattle.picture.specs.Picture.{lit}
 use Rattle.picture.specs.engine.Shown.{page_dot, page_put}
-use Rattle.picture.specs.laws.ShownLaws.{shown_lit}
+use Rattle.picture.proofs.laws.ShownLaws.{shown_lit}
 use Rattle.picture.specs.Paint.{Paints, glass_of, paint_paper, dots_for, painted_of, frame_after}
 use Rattle.picture.specs.declared.paint.Painted.{Painted}
 use Rattle.picture.specs.declared.paint.Painted.TheVariants.{Lit, Size, Unsound}

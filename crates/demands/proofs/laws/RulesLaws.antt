@@ -23,7 +23,7 @@ use Rattle.mirror.specs.laws.TableLaws.{answered_sound}
 use Rattle.demands.specs.Mirrors.{ours}
 use Rattle.demands.specs.Replay.{Entry, carried_all, entry_of}
 use Rattle.demands.specs.Rules.{matching, begun_busy, entries_at, IgnoresBusy, DoesSteps}
-use Rattle.demands.specs.laws.Ways.{Narrow}
+use Rattle.demands.proofs.laws.Ways.{Narrow}
 
 -- no half waits at width 8 in a sound panel
 fits_narrow : (eight : Bool) (h : Half) → half_fits eight h ≡ true → Narrow eight h

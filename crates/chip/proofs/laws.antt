@@ -4,6 +4,6 @@ pub mod StepLaws
 pub mod CodeLaws
 pub mod WidthLaws
 pub mod GoodLaws
+pub mod FunctionLaws
 pub mod WrittenLaws
 pub mod SoundLaws
-pub mod FunctionLaws

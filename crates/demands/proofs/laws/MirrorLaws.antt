@@ -20,9 +20,9 @@ use Rattle.striking.specs.Machine.{goes, strikes, leaves, sorted, Machine}
 use Rattle.striking.specs.Duties.{Turn, KeeperStays, Laws}
 use Rattle.striking.proofs.laws.Instances.{through_laws}
 use Rattle.demands.specs.Mirrors.{Response, out_of, sort_for, settled_panel, machine_of}
-use Rattle.demands.specs.laws.EngineLaws.{engine}
+use Rattle.demands.proofs.laws.EngineLaws.{engine}
 use Rattle.demands.specs.Replay.{carried}
-use Rattle.demands.specs.laws.Ways.{Acts, taken, doubtful, Drops, status, ignored, torn, nothing, Stands, back, bad, cut, Narrow, Fits, Goes, acts, drops, misses, begins, Came, stands, restarts, transfers, came}
+use Rattle.demands.proofs.laws.Ways.{Acts, taken, doubtful, Drops, status, ignored, torn, nothing, Stands, back, bad, cut, Narrow, Fits, Goes, acts, drops, misses, begins, Came, stands, restarts, transfers, came}
 
 -- our mirror on records that are parsed already
 abbrev parsed : Machine Panel Frame Response

@@ -20,8 +20,8 @@ use Rattle.picture.specs.Mode.{mode_b, row_turn, column_turn, glass_in, glass_fo
 use Rattle.picture.specs.Picture.{lit}
 use Rattle.picture.specs.Paint.{glass_of, paint_paper, painted_of, frame_after}
 use Rattle.picture.specs.declared.paint.Painted.{Painted}
-use Rattle.picture.specs.laws.PaintLaws.{painted_dots}
-use Rattle.picture.specs.laws.PictureLaws.{function_unseen}
+use Rattle.picture.proofs.laws.PaintLaws.{painted_dots}
+use Rattle.picture.proofs.laws.PictureLaws.{function_unseen}
 
 -- dot (r, x) of the one landing lands where dot (s, y) of the other would
 pub record LandsAs (L K : Landing) (r x s y : ℕ) : Type 0 where

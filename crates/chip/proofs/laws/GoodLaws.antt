@@ -6,7 +6,7 @@ use Rattle.chip.specs.Sizes.{places_of, pattern_size}
 use Rattle.chip.specs.Address.{display, pattern, in_display}
 use Rattle.chip.specs.Instruction.{is_set}
 use Rattle.chip.specs.Step.{acted, obeyed, next_good, stepped, stored_at, followed, shifts_at, written, passed}
-use Rattle.chip.specs.laws.CodeLaws.{upper_code, high_code}
+use Rattle.chip.proofs.laws.CodeLaws.{upper_code, high_code}
 use Rattle.chip.specs.declared.address.Address.TheVariants.{Display, Pattern}
 use Rattle.chip.specs.declared.instruction.Instruction.TheVariants.{Clear, Home, Entry, Screen, Set}
 use Rattle.chip.specs.declared.sheet.Sheet.{Sheet}
