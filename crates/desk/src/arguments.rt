@@ -2,9 +2,10 @@
 // said once, as it also prints it: `at TIME, font FILE` are two groups, each a name and the words that follow it.
 ghost use Rattle.io.specs.Counts.{IsPrefixLen};
 
-use crate::print::{complain, show};
+use crate::print::{STDERR, complain, show};
 use check::same;
-use libc::STDERR_FILENO;
+use std::env::FillError;
+use std::rt::Env;
 
 // The most groups that a program may take.
 pub const GROUPS: usize = 11;
@@ -25,8 +26,39 @@ struct Group {
     words: usize,
 }
 
+// Puts the argument at a place at the front of the buffer: how many bytes it has, 0 where there is none, or where it is
+// longer than the buffer. Its bytes may be any.
+pub(crate) fn argument(rt: &HostRuntime, place: usize, buf: &mut [u8]) -> usize
+    ensures { IsPrefixLen result buf.new }
+{
+    match rt.arg(place, buf) {
+        Ok(n) => n,
+        Err(_) => 0,
+    }
+}
+
+// Whether there is an argument at a place.
+fn stands(rt: &HostRuntime, place: usize) -> bool {
+    let mut first = [0u8; 1];
+    match rt.arg(place, &mut first) {
+        Ok(_) => true,
+        Err(FillError::TooLong) => true,
+        Err(FillError::NotPresent) => false,
+    }
+}
+
+// How many arguments there are, the program's own name among them.
+fn argument_count(rt: &HostRuntime) -> usize {
+    for i in 0..usize::MAX {
+        if !stands(rt, i) {
+            return i;
+        }
+    }
+    usize::MAX
+}
+
 // How many bytes stand before the first `stop`, or all where there is none.
-fn before(bytes: &[u8], stop: u8) -> usize
+pub(crate) fn before(bytes: &[u8], stop: u8) -> usize
     ensures { IsPrefixLen result bytes.now }
 {
     let mut i: usize = 0;
@@ -79,16 +111,16 @@ fn group_of(takes: &[u8], word: &[u8]) -> Group {
     }
 }
 
-fn group_at(takes: &[u8], place: usize) -> Group {
+fn group_at(rt: &HostRuntime, takes: &[u8], place: usize) -> Group {
     let mut word = io::buffer();
-    let n = os::arg(place, &mut word);
+    let n = argument(rt, place, &mut word);
     group_of(takes, &word[..n])
 }
 
 // Whether the argument at a place is the word.
-fn is(place: usize, word: &[u8]) -> bool {
+fn is(rt: &HostRuntime, place: usize, word: &[u8]) -> bool {
     let mut space = io::buffer();
-    let n = os::arg(place, &mut space);
+    let n = argument(rt, place, &mut space);
     same(&space[..n], word)
 }
 
@@ -103,7 +135,7 @@ impl Given {
     }
 
     // With the next group, where there is one.
-    fn read_group(self, takes: &[u8], count: usize) -> Given {
+    fn read_group(self, rt: &HostRuntime, takes: &[u8], count: usize) -> Given {
         let at = self.next;
         if !self.ok {
             return self;
@@ -112,7 +144,7 @@ impl Given {
             return self;
         }
         let refused = Given { ok: false, ..self };
-        let group = group_at(takes, at);
+        let group = group_at(rt, takes, at);
         let which = group.which;
         let words = group.words;
         if GROUPS <= which {
@@ -135,12 +167,12 @@ impl Given {
 }
 
 // All groups. A group is a word at least, so there are no more turns than words.
-fn read_groups(takes: &[u8]) -> Given {
-    let count = os::arg_count();
+fn read_groups(rt: &HostRuntime, takes: &[u8]) -> Given {
+    let count = argument_count(rt);
     let mut given = Given::none();
     let mut turns = count;
     while turns > 0 {
-        given = given.read_group(takes, count);
+        given = given.read_group(rt, takes, count);
         turns -= 1;
     }
     given
@@ -152,23 +184,23 @@ fn complain_of(name: &[u8], takes: &[u8]) {
         complain(name, b"takes no argument but --help");
         return;
     }
-    io::write_all(STDERR_FILENO, name);
-    io::write_all(STDERR_FILENO, b": takes ");
-    io::write_all(STDERR_FILENO, takes);
-    io::write_all(STDERR_FILENO, b", each at most once, or --help alone\n");
+    io::write_all(STDERR, name);
+    io::write_all(STDERR, b": takes ");
+    io::write_all(STDERR, takes);
+    io::write_all(STDERR, b", each at most once, or --help alone\n");
 }
 
 // The arguments of the program `name`, which takes the groups `takes`. It is not to go on where it was asked for help,
 // which is then written, or for something that it does not take: then a line was written.
-pub fn asked(name: &[u8], takes: &[u8], help: &[u8]) -> Given {
-    if (os::arg_count() == 2) & is(1, b"--help") {
+pub fn asked(rt: &HostRuntime, name: &[u8], takes: &[u8], help: &[u8]) -> Given {
+    if (argument_count(rt) == 2) & is(rt, 1, b"--help") {
         show(help);
         return Given {
             ok: false,
             ..Given::none()
         };
     }
-    let given = read_groups(takes);
+    let given = read_groups(rt, takes);
     if !given.ok {
         complain_of(name, takes);
     }

@@ -2,6 +2,7 @@
 ghost use Rattle.std.specs.Prelude.{◌≡◌};
 ghost use Rattle.desk.specs.Chips.{chip_named};
 
+use crate::arguments::argument;
 use crate::print::complain;
 use check::same;
 use chip::sizes::{ONE_LINE, TWO_LINES};
@@ -34,7 +35,7 @@ pub fn chip_of(name: &[u8]) -> Named
 
 // The chip that the argument at a place names, for a program; the one-line chip where none was given. Another name
 // writes a line.
-pub(crate) fn chip_at(program: &[u8], place: usize) -> Named {
+pub(crate) fn chip_at(rt: &HostRuntime, program: &[u8], place: usize) -> Named {
     if place == 0 {
         return Named {
             ok: true,
@@ -42,7 +43,7 @@ pub(crate) fn chip_at(program: &[u8], place: usize) -> Named {
         };
     }
     let mut word = io::buffer();
-    let n = os::arg(place, &mut word);
+    let n = argument(rt, place, &mut word);
     let named = chip_of(&word[..n]);
     if !named.ok {
         complain(program, b"the chip is 6631 or 6635");

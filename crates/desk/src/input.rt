@@ -2,7 +2,8 @@
 ghost use Rattle.std.specs.Prelude.{◌≡◌, ◌-◌};
 ghost use Rattle.desk.specs.Reads.{Reads, unread};
 
-use libc::STDIN_FILENO;
+use crate::print::fail;
+use std::io::Read;
 
 // The bytes that a program asks for at once. More makes no program faster, and each holds its block twice while it starts.
 pub const BLOCK: usize = 32768;
@@ -38,25 +39,28 @@ impl Input {
     }
 
     // Reads once, into the front of the block. A failure writes a line.
-    pub fn read(self, block: &mut [u8]) -> Input
+    pub fn read(self, rt: &HostRuntime, block: &mut [u8]) -> Input
         ensures { Reads self block.new result }
     {
-        let got = libc::read(STDIN_FILENO, block);
-        if got < 0 {
-            os::fail(b"standard input");
-        }
-        let len = io::count(got, block);
-        if got <= 0 {
-            return Input {
-                left: 0,
-                len,
-                failed: got < 0,
-            };
-        }
-        Input {
-            left: fewer(self.left),
-            len,
+        let ended = Input {
+            left: 0,
+            len: 0,
             failed: false,
+        };
+        match rt.stdin().read(block) {
+            Ok(0) => ended,
+            Ok(len) => Input {
+                left: fewer(self.left),
+                len,
+                failed: false,
+            },
+            Err(error) => {
+                fail(rt, b"standard input", error);
+                Input {
+                    failed: true,
+                    ..ended
+                }
+            }
         }
     }
 }

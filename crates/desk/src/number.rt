@@ -3,6 +3,8 @@ ghost use Rattle.std.specs.Prelude.{◌≡◌, ◌≤◌};
 ghost use Rattle.desk.specs.Number.{decimal_of};
 ghost use Rattle.desk.specs.engine.Number.{then_of};
 
+use crate::arguments::argument;
+
 // A number; not ok where there is none, and then its value is 0.
 #[derive(Clone, Copy)]
 pub struct Number {
@@ -59,10 +61,10 @@ pub fn number_of(word: &[u8], most: u64) -> Number
 }
 
 // The number that the argument at a place writes.
-pub fn number_at(place: usize, most: u64) -> Number
+pub fn number_at(rt: &HostRuntime, place: usize, most: u64) -> Number
     ensures { result.value ≤ most }
 {
     let mut word = io::buffer();
-    let n = os::arg(place, &mut word);
+    let n = argument(rt, place, &mut word);
     number_of(&word[..n], most)
 }

@@ -1,15 +1,20 @@
 // What a program writes: to standard output its print, to standard error one line where it refuses.
-use libc::{STDERR_FILENO, STDOUT_FILENO};
+use std::io::Error;
+
+// The descriptors of standard output and standard error.
+pub(crate) const STDOUT: i32 = 1;
+
+pub(crate) const STDERR: i32 = 2;
 
 // Writes the bytes as they are.
 pub fn show(bytes: &[u8]) {
-    io::write_all(STDOUT_FILENO, bytes);
+    io::write_all(STDOUT, bytes);
 }
 
 // Writes a number in decimal, with the label in front of it.
 pub fn show_number(label: &[u8], n: u64) {
     show(label);
-    io::print_decimal(STDOUT_FILENO, n);
+    io::print_decimal(STDOUT, n);
 }
 
 // Writes each byte as two hexadecimal digits, with the gap in front of it.
@@ -24,8 +29,36 @@ pub fn show_bytes(gap: &[u8], bytes: &[u8]) {
 
 // One line on standard error: the program's name, and what is wrong.
 pub fn complain(name: &[u8], what: &[u8]) {
-    io::write_all(STDERR_FILENO, name);
-    io::write_all(STDERR_FILENO, b": ");
-    io::write_all(STDERR_FILENO, what);
-    io::write_all(STDERR_FILENO, b"\n");
+    io::write_all(STDERR, name);
+    io::write_all(STDERR, b": ");
+    io::write_all(STDERR, what);
+    io::write_all(STDERR, b"\n");
+}
+
+// The words alone, where the number of the system's error stands after them.
+fn words(text: &str) -> &str {
+    match text.split_once(" (os error ") {
+        Some((words, _)) => words,
+        None => text,
+    }
+}
+
+// Why a call of the system failed, in the system's words.
+fn tell_reason(rt: &HostRuntime, error: Error) {
+    match format!(in rt.alloc(); "{error}") {
+        Ok(text) => {
+            io::write_all(STDERR, words(text.as_str()).as_bytes());
+        }
+        Err(_) => {
+            io::write_all(STDERR, b"Cannot allocate memory");
+        }
+    }
+}
+
+// One line on standard error: what could not be read, and why.
+pub(crate) fn fail(rt: &HostRuntime, what: &[u8], error: Error) {
+    io::write_all(STDERR, what);
+    io::write_all(STDERR, b": ");
+    tell_reason(rt, error);
+    io::write_all(STDERR, b"\n");
 }

@@ -3,8 +3,13 @@
 // Standard error is for refusals: the launcher takes whatever is written there for one. It hands a program its own standard
 // error once more, as descriptor 3, and there the line stands, where that is a terminal. A program that was started
 // otherwise has no such descriptor, and shows nothing.
-use libc::{SEEK_CUR, SEEK_END, SEEK_SET, STDIN_FILENO, STDOUT_FILENO};
+use crate::arguments::before;
+use crate::number::number_of;
+use std::fs::{File, metadata};
+use std::io::{IsTerminal, Read, Result, Seek, SeekFrom};
 use std::num::wrapping_add_u64;
+use std::os::unix::fs::FileTypeExt;
+use std::rt::CpuClock;
 
 // Where the line is shown.
 const BESIDE: i32 = 3;
@@ -41,11 +46,60 @@ fn tell(bytes: &[u8]) {
 }
 
 // What a call answered, 0 where it failed.
-fn at_least_0(answer: i64) -> u64 {
-    if answer < 0 {
+fn at_least_0(answer: Result<u64>) -> u64 {
+    match answer {
+        Ok(n) => n,
+        Err(_) => 0,
+    }
+}
+
+// Whether the descriptor BESIDE is open on a terminal. It is reached by its name, which opens what it is open on once more:
+// so only where that is a character device, since to open a pipe may wait.
+fn beside_is_terminal(rt: &HostRuntime) -> bool {
+    match metadata(rt, "/proc/self/fd/3") {
+        Ok(found) => {
+            if !found.file_type().is_char_device() {
+                return false;
+            }
+        }
+        Err(_) => return false,
+    }
+    match File::open(rt, "/proc/self/fd/3") {
+        Ok(file) => file.is_terminal(),
+        Err(_) => false,
+    }
+}
+
+// The number of the first line of what Linux tells of a descriptor: `pos:`, a tab and the place in decimal.
+fn place_in(told: &[u8]) -> u64 {
+    if told.len() < 5 {
         return 0;
     }
-    answer as u64
+    let rest = &told[5..];
+    let n = before(rest, b'\n');
+    let place = number_of(&rest[..n], u64::MAX);
+    place.value
+}
+
+// Where standard input stands.
+fn input_place(rt: &HostRuntime) -> Result<u64> {
+    let mut told = io::buffer();
+    let mut file = File::open(rt, "/proc/self/fdinfo/0")?;
+    let n = file.read(&mut told)?;
+    Ok(place_in(&told[..n]))
+}
+
+// The size of a device, as standard input is open on it.
+fn device_size(rt: &HostRuntime) -> Result<u64> {
+    let mut device = File::open(rt, "/proc/self/fd/0")?;
+    device.seek(SeekFrom::End(0))
+}
+
+// The processor time that this process has used, in microseconds.
+fn work(rt: &HostRuntime) -> Result<u64> {
+    let time = rt.process_cpu_time()?;
+    let seconds = time.as_secs().wrapping_mul(SECOND);
+    Ok(wrapping_add_u64(seconds, time.subsec_micros() as u64))
 }
 
 // The line, over the one that stands there. A file that has grown since is of no known size any more. The cursor goes back,
@@ -63,39 +117,49 @@ fn tell_line(name: &[u8], read: u64, size: u64) {
 }
 
 // From where standard input stands, up to the size that it has. A pipe has no place and no size.
-fn start_at(place: i64) -> Progress {
-    if place < 0 {
-        return Progress {
-            shown: true,
-            ..NOTHING
-        };
-    }
-    let end = libc::lseek(STDIN_FILENO, 0, SEEK_END);
-    libc::lseek(STDIN_FILENO, place, SEEK_SET);
-    Progress {
+fn start_at(rt: &HostRuntime) -> Progress {
+    let pipe = Progress {
         shown: true,
-        read: at_least_0(place),
-        size: at_least_0(end),
         ..NOTHING
+    };
+    match metadata(rt, "/proc/self/fd/0") {
+        Ok(input) => {
+            if input.is_file() {
+                return Progress {
+                    read: at_least_0(input_place(rt)),
+                    size: input.len(),
+                    ..pipe
+                };
+            }
+            if input.file_type().is_block_device() {
+                return Progress {
+                    read: at_least_0(input_place(rt)),
+                    size: at_least_0(device_size(rt)),
+                    ..pipe
+                };
+            }
+            pipe
+        }
+        Err(_) => pipe,
     }
 }
 
 impl Progress {
     // Before the first read, for a program that prints once all is read, or makes room before it prints.
-    pub fn start() -> Progress {
-        if libc::isatty(BESIDE) != 1 {
+    pub fn start(rt: &HostRuntime) -> Progress {
+        if !beside_is_terminal(rt) {
             return NOTHING;
         }
-        let placed = start_at(libc::lseek(STDIN_FILENO, 0, SEEK_CUR));
+        let placed = start_at(rt);
         Progress {
-            same: libc::isatty(STDOUT_FILENO) == 1,
+            same: rt.stdout().is_terminal(),
             ..placed
         }
     }
 
     // The same for a program that prints all the while: on a terminal its print says how far it is.
-    pub fn start_beside_print() -> Progress {
-        let started = Progress::start();
+    pub fn start_beside_print(rt: &HostRuntime) -> Progress {
+        let started = Progress::start(rt);
         if started.same {
             return NOTHING;
         }
@@ -103,12 +167,12 @@ impl Progress {
     }
 
     // After a read that brought so many bytes: shows the line where it is due.
-    pub fn after(self, name: &[u8], len: usize) -> Progress {
+    pub fn after(self, rt: &HostRuntime, name: &[u8], len: usize) -> Progress {
         if !self.shown {
             return self;
         }
         let read = wrapping_add_u64(self.read, len as u64);
-        let work = at_least_0(libc::clock());
+        let work = at_least_0(work(rt));
         if work < self.next {
             return Progress { read, ..self };
         }

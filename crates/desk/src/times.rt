@@ -2,6 +2,7 @@
 ghost use Rattle.std.specs.Prelude.{◌≡◌};
 ghost use Rattle.desk.specs.Times.{times_of};
 
+use crate::arguments::argument;
 use crate::number::number_of;
 use crate::print::complain;
 use std::num::wrapping_add_usize;
@@ -50,7 +51,7 @@ pub fn times_of(reset: &[u8], long: &[u8], short: &[u8]) -> Timed
 
 // The times that the three arguments from a place on write, for a program; the usual ones where none were given. What
 // is no time writes a line.
-pub(crate) fn times_at(program: &[u8], place: usize) -> Timed {
+pub(crate) fn times_at(rt: &HostRuntime, program: &[u8], place: usize) -> Timed {
     if place == 0 {
         return Timed {
             ok: true,
@@ -62,9 +63,9 @@ pub(crate) fn times_at(program: &[u8], place: usize) -> Timed {
     let mut reset = io::buffer();
     let mut long = io::buffer();
     let mut short = io::buffer();
-    let i = os::arg(place, &mut reset);
-    let j = os::arg(wrapping_add_usize(place, 1), &mut long);
-    let k = os::arg(wrapping_add_usize(place, 2), &mut short);
+    let i = argument(rt, place, &mut reset);
+    let j = argument(rt, wrapping_add_usize(place, 1), &mut long);
+    let k = argument(rt, wrapping_add_usize(place, 2), &mut short);
     let timed = times_of(&reset[..i], &long[..j], &short[..k]);
     if !timed.ok {
         complain(program, b"times takes three numbers of at most 65535");

@@ -11,8 +11,8 @@ pub struct Told {
 }
 
 // By the places of the words that follow `chip` and `times`, 0 where they were not given.
-pub fn told_at(program: &[u8], chip: usize, times: usize) -> Told {
-    let named = chip_at(program, chip);
+pub fn told_at(rt: &HostRuntime, program: &[u8], chip: usize, times: usize) -> Told {
+    let named = chip_at(rt, program, chip);
     if !named.ok {
         return Told {
             ok: false,
@@ -20,7 +20,7 @@ pub fn told_at(program: &[u8], chip: usize, times: usize) -> Told {
             times: NO_TIMES,
         };
     }
-    let timed = times_at(program, times);
+    let timed = times_at(rt, program, times);
     Told {
         ok: timed.ok,
         chip: named.chip,

@@ -1,5 +1,6 @@
 // The mirror program: reads a log on standard input, and prints the counts, the address and the codes.
 #![tactic(auto)]
+
 use chip::address::Address;
 use chip::registers::Registers;
 use chip::sizes::{DISPLAY_SIZE, places};
@@ -23,14 +24,14 @@ struct Fed {
     failed: bool,
 }
 
-fn feed_all(start: Stream, block: &mut [u8]) -> Fed {
+fn feed_all(rt: &HostRuntime, start: Stream, block: &mut [u8]) -> Fed {
     let mut stream = start;
     let mut input = Input::start();
-    let mut progress = Progress::start();
+    let mut progress = Progress::start(rt);
     while input.left > 0 {
-        input = input.read(block);
+        input = input.read(rt, block);
         let n = input.len;
-        progress = progress.after(b"glazomir", n);
+        progress = progress.after(rt, b"glazomir", n);
         stream = stream.feed(&block[..n]);
     }
     progress.clear();
@@ -78,8 +79,9 @@ fn print_codes(chip: u8, display: [u8; DISPLAY_SIZE]) {
 }
 
 // What was asked for; its help explains the thirteen lines.
-fn arguments() -> Given {
+fn arguments(rt: &HostRuntime) -> Given {
     asked(
+        rt,
         b"glazomir",
         b"chip NAME, times R L S",
         b"glazomir < LOG carries a log of bus transfers out on a fresh panel, and prints thirteen lines:\n\
@@ -104,20 +106,20 @@ fn arguments() -> Given {
     )
 }
 
-fn main() {
-    let given = arguments();
+fn main(rt: HostRuntime) {
+    let given = arguments(&rt);
     if !given.ok {
         return;
     }
     let places = given.places;
-    let told = told_at(b"glazomir", places[CHIP], places[TIMES]);
+    let told = told_at(&rt, b"glazomir", places[CHIP], places[TIMES]);
     if !told.ok {
         return;
     }
     let times = told.times;
     let mut block = [0; BLOCK];
     let start = Stream::start(Panel::fresh(told.chip, times.reset, times.long, times.short));
-    let fed = feed_all(start, &mut block);
+    let fed = feed_all(&rt, start, &mut block);
     if fed.failed {
         return;
     }

@@ -1,6 +1,7 @@
 // Paints the panel that a log leaves a hundred thousand times, for the benchmark: prints the lit dots of all paintings
 // (modulo a prime) and the last frame. Each painting has another shift, and every second one a dark blink.
 #![tactic(auto)]
+
 ghost use Rattle.std.specs.Prelude.{◌≡◌, length};
 ghost use Rattle.picture.specs.Frame.{most_frame_size};
 
@@ -95,8 +96,9 @@ fn show_paintings(chip: u8, panel: Panel, font: &[u8]) {
 }
 
 // What was asked for.
-fn arguments() -> Given {
+fn arguments(rt: &HostRuntime) -> Given {
     asked(
+        rt,
         b"paintings",
         b"chip NAME",
         b"paintings < LOG paints the panel that a log of at most 65536 bytes leaves a hundred thousand times, for\n\
@@ -105,19 +107,19 @@ fn arguments() -> Given {
     )
 }
 
-fn main() {
-    let given = arguments();
+fn main(rt: HostRuntime) {
+    let given = arguments(&rt);
     if !given.ok {
         return;
     }
     let places = given.places;
-    let told = told_at(b"paintings", places[CHIP], NOWHERE);
+    let told = told_at(&rt, b"paintings", places[CHIP], NOWHERE);
     if !told.ok {
         return;
     }
     let times = told.times;
     let mut block = io::large_buffer();
-    let input = Input::start().read(&mut block);
+    let input = Input::start().read(&rt, &mut block);
     let n = input.len;
     let fresh = Panel::fresh(told.chip, times.reset, times.long, times.short);
     let run = fresh.run(&block[..n]);

@@ -1,5 +1,6 @@
 // How the programs write a byte.
 #![tactic(auto)]
+
 ghost use Rattle.std.specs.Prelude.{◌≡◌};
 ghost use Rattle.text.specs.Hex.{digit_of, hex_of};
 

@@ -92,15 +92,15 @@ fn ended(stream: Stream, refusal: u8, failed: bool) -> Done {
 }
 
 // The whole of standard input.
-pub(crate) fn answer_all(start: Stream, block: &mut [u8]) -> Done {
+pub(crate) fn answer_all(rt: &HostRuntime, start: Stream, block: &mut [u8]) -> Done {
     let refusal = refusal_of(start);
     let mut stream = start;
     let mut input = Input::start();
-    let mut progress = Progress::start_beside_print();
+    let mut progress = Progress::start_beside_print(rt);
     while input.left > 0 {
-        input = input.read(block);
+        input = input.read(rt, block);
         let n = input.len;
-        progress = progress.after(b"trace", n);
+        progress = progress.after(rt, b"trace", n);
         stream = answer_part(stream, refusal, &block[..n]);
     }
     progress.clear();

@@ -9,14 +9,14 @@ use std::num::wrapping_add_usize;
 const MOST: u64 = 200;
 
 // The size of the frames that are painted: what an argument names, or that of the chip's frame.
-pub(crate) fn size_at(place: usize, chip: u8) -> Number {
+pub(crate) fn size_at(rt: &HostRuntime, place: usize, chip: u8) -> Number {
     if place == 0 {
         return Number {
             ok: true,
             value: frame_size(chip) as u64,
         };
     }
-    let size = number_at(place, MOST);
+    let size = number_at(rt, place, MOST);
     if !size.ok {
         complain(b"trace", b"frame takes a number of at most 200");
     }
@@ -24,7 +24,7 @@ pub(crate) fn size_at(place: usize, chip: u8) -> Number {
 }
 
 // A frame to compare, in a file; an empty one where none is named.
-pub(crate) fn frame_at(place: usize) -> Bytes {
+pub(crate) fn frame_at(rt: &HostRuntime, place: usize) -> Bytes {
     if place == 0 {
         return Bytes {
             ok: true,
@@ -32,7 +32,7 @@ pub(crate) fn frame_at(place: usize) -> Bytes {
             len: 0,
         };
     }
-    let file = load(place);
+    let file = load(rt, place);
     if !file.ok {
         return file;
     }

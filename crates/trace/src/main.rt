@@ -1,5 +1,6 @@
 // Prints everything that a test or a doubtful colleague wants to see of a log: docs/TRACE.md has the print.
 #![tactic(auto)]
+
 mod answers;
 mod frames;
 mod panel_file;
@@ -81,20 +82,20 @@ fn trial_font() -> Bytes {
     }
 }
 
-fn font_at(place: usize) -> Bytes {
+fn font_at(rt: &HostRuntime, place: usize) -> Bytes {
     if place == 0 {
         return trial_font();
     }
-    load(place)
+    load(rt, place)
 }
 
 // The panel in a file; `fresh` stands in where there is none.
-fn loaded_panel(place: usize, fresh: Panel) -> Started {
+fn loaded_panel(rt: &HostRuntime, place: usize, fresh: Panel) -> Started {
     let none = Started {
         ok: false,
         panel: fresh,
     };
-    let file = load(place);
+    let file = load(rt, place);
     if !file.ok {
         return none;
     }
@@ -113,8 +114,8 @@ fn loaded_panel(place: usize, fresh: Panel) -> Started {
     }
 }
 
-fn first_panel(places: [usize; GROUPS]) -> Started {
-    let told = told_at(b"trace", places[CHIP], places[TIMES]);
+fn first_panel(rt: &HostRuntime, places: [usize; GROUPS]) -> Started {
+    let told = told_at(rt, b"trace", places[CHIP], places[TIMES]);
     let times = told.times;
     let fresh = Panel::fresh(told.chip, times.reset, times.long, times.short);
     if !told.ok {
@@ -129,16 +130,16 @@ fn first_panel(places: [usize; GROUPS]) -> Started {
             panel: fresh,
         };
     }
-    loaded_panel(places[PANEL], fresh)
+    loaded_panel(rt, places[PANEL], fresh)
 }
 
 // The lines of the records, each by a call of its own or out of the stream.
-fn read_all(panel: Panel, alone: bool) -> Done {
+fn read_all(rt: &HostRuntime, panel: Panel, alone: bool) -> Done {
     let mut block = [0; BLOCK];
     if alone {
-        return record_all(panel, &mut block);
+        return record_all(rt, panel, &mut block);
     }
-    answer_all(Stream::start(panel), &mut block)
+    answer_all(rt, Stream::start(panel), &mut block)
 }
 
 fn chip_in(panel: Panel) -> u8 {
@@ -148,8 +149,8 @@ fn chip_in(panel: Panel) -> u8 {
 }
 
 // The lines of the records, then those of the run.
-fn print(panel: Panel, alone: bool, lent: Lent) {
-    let done = read_all(panel, alone);
+fn print(rt: &HostRuntime, panel: Panel, alone: bool, lent: Lent) {
+    let done = read_all(rt, panel, alone);
     if done.failed {
         return;
     }
@@ -171,8 +172,9 @@ fn print(panel: Panel, alone: bool, lent: Lent) {
 }
 
 // What was asked for.
-fn arguments() -> Given {
+fn arguments(rt: &HostRuntime) -> Given {
     asked(
+        rt,
         b"trace",
         b"font FILE, chip NAME, times R L S, panel FILE, frame N, frames A B, records",
         b"trace < LOG prints a line for each record, its answer and byte; then the whole panel, its picture\n\
@@ -187,34 +189,35 @@ fn arguments() -> Given {
     )
 }
 
-fn main() {
-    let given = arguments();
+fn main(rt: HostRuntime) {
+    let given = arguments(&rt);
     if !given.ok {
         return;
     }
     let places = given.places;
-    let started = first_panel(places);
+    let started = first_panel(&rt, places);
     if !started.ok {
         return;
     }
     let panel = started.panel;
-    let size = size_at(places[FRAME], chip_in(panel));
+    let size = size_at(&rt, places[FRAME], chip_in(panel));
     if !size.ok {
         return;
     }
-    let font = font_at(places[FONT]);
+    let font = font_at(&rt, places[FONT]);
     if !font.ok {
         return;
     }
-    let a = frame_at(places[FRAMES]);
+    let a = frame_at(&rt, places[FRAMES]);
     if !a.ok {
         return;
     }
-    let b = frame_at(second_place(places[FRAMES]));
+    let b = frame_at(&rt, second_place(places[FRAMES]));
     if !b.ok {
         return;
     }
     print(
+        &rt,
         panel,
         places[RECORDS] != 0,
         Lent {

@@ -156,17 +156,17 @@ fn ended(tally: Tally, tail: &[u8], failed: bool) -> Done {
 }
 
 // The whole of standard input, from a panel that is not refused.
-fn record_sound(panel: Panel, block: &mut [u8]) -> Done {
+fn record_sound(rt: &HostRuntime, panel: Panel, block: &mut [u8]) -> Done {
     let mut tally = Tally::start(panel);
     let mut kept: usize = 0;
     let mut input = Input::start();
-    let mut progress = Progress::start_beside_print();
+    let mut progress = Progress::start_beside_print(rt);
     while input.left > 0 {
-        input = input.read(&mut block[kept..]);
+        input = input.read(rt, &mut block[kept..]);
         let n = kept + input.len;
         tally = record_part(tally, &block[..n]);
         kept = move_front(block, tally.used, n);
-        progress = progress.after(b"trace", input.len);
+        progress = progress.after(rt, b"trace", input.len);
     }
     progress.clear();
     ended(tally, &block[..kept], input.failed)
@@ -174,15 +174,15 @@ fn record_sound(panel: Panel, block: &mut [u8]) -> Done {
 
 // The whole of standard input. A panel that is refused takes no record, and so none can move it on: how many there are
 // is then read off by the stream.
-pub(crate) fn record_all(panel: Panel, block: &mut [u8]) -> Done {
+pub(crate) fn record_all(rt: &HostRuntime, panel: Panel, block: &mut [u8]) -> Done {
     let first = panel.record(b"");
     let answer = first.answer;
     if let Answer::Unsound = answer {
-        let counted = answer_all(Stream::start(panel), block);
+        let counted = answer_all(rt, Stream::start(panel), block);
         return Done {
             ended: answer.number(),
             ..counted
         };
     }
-    record_sound(panel, block)
+    record_sound(rt, panel, block)
 }

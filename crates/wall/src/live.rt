@@ -13,9 +13,9 @@ use desk::clock::put_number;
 use desk::input::{BLOCK, Input};
 use desk::page::{PAGE, put, write_out};
 use desk::print::show;
-use libc::STDOUT_FILENO;
 use mirror::panel::Panel;
 use mirror::stream::Stream;
+use std::io::IsTerminal;
 
 // A picture: what it is made of, and its bytes.
 #[derive(Clone, Copy)]
@@ -163,12 +163,19 @@ fn draw_again(before: Drawn, heard: Followed, way: Way) -> Drawn {
 }
 
 // The rest of standard input, after the first picture.
-fn draw_rest(first: Input, heard: Followed, drawn: Drawn, way: Way, block: &mut [u8]) {
+fn draw_rest(
+    rt: &HostRuntime,
+    first: Input,
+    heard: Followed,
+    drawn: Drawn,
+    way: Way,
+    block: &mut [u8],
+) {
     let mut input = first;
     let mut heard = heard;
     let mut drawn = drawn;
     while input.left > 0 {
-        input = input.read(block);
+        input = input.read(rt, block);
         let n = input.len;
         if n > 0 {
             heard = follow_part(heard, FOREVER, &block[..n]);
@@ -178,15 +185,15 @@ fn draw_rest(first: Input, heard: Followed, drawn: Drawn, way: Way, block: &mut 
 }
 
 // The whole of standard input: a picture after the first read, and one for each that shows another.
-pub(crate) fn live(start: Stream, font: Bytes, wanted: Wanted) {
+pub(crate) fn live(rt: &HostRuntime, start: Stream, font: Bytes, wanted: Wanted) {
     let mut block = [0; BLOCK];
-    let terminal = libc::isatty(STDOUT_FILENO) == 1;
+    let terminal = rt.stdout().is_terminal();
     let way = Way {
         font,
         wanted,
         terminal,
     };
-    let input = Input::start().read(&mut block);
+    let input = Input::start().read(rt, &mut block);
     if input.failed {
         return;
     }
@@ -200,7 +207,7 @@ pub(crate) fn live(start: Stream, font: Bytes, wanted: Wanted) {
     let stream = heard.stream;
     let drawn = drawn_of(stream.panel(), way);
     write_picture(drawn, heard, terminal, true, true);
-    draw_rest(input, heard, drawn, way, &mut block);
+    draw_rest(rt, input, heard, drawn, way, &mut block);
     if terminal {
         show(b"\x1B[?7h\x1B[?25h");
     }

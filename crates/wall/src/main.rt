@@ -1,5 +1,6 @@
 // What the glass showed: reads a log on standard input, and draws the panel as it then stands.
 #![tactic(auto)]
+
 mod apart;
 mod bitmap;
 mod codes;
@@ -92,14 +93,14 @@ fn stand_together(places: [usize; GROUPS]) -> bool {
 }
 
 // The time to stop at.
-fn time_at(place: usize) -> Number {
+fn time_at(rt: &HostRuntime, place: usize) -> Number {
     if place == 0 {
         return Number {
             ok: true,
             value: FOREVER,
         };
     }
-    let time = number_at(place, FOREVER);
+    let time = number_at(rt, place, FOREVER);
     if !time.ok {
         complain(b"wall", b"at takes a time of at most 281474976710656");
     }
@@ -107,11 +108,11 @@ fn time_at(place: usize) -> Number {
 }
 
 // The font that an argument names; the program's own where there is none.
-fn font_at(place: usize) -> Bytes {
+fn font_at(rt: &HostRuntime, place: usize) -> Bytes {
     if place == 0 {
         return font::built_in();
     }
-    let file = load(place);
+    let file = load(rt, place);
     if !file.ok {
         return file;
     }
@@ -135,9 +136,9 @@ fn wanted_of(places: [usize; GROUPS]) -> Wanted {
 }
 
 // Watches the log up to the time, then shows what the glass did.
-fn show_once(start: Stream, until: u64, font: Bytes, wanted: Wanted) {
+fn show_once(rt: &HostRuntime, start: Stream, until: u64, font: Bytes, wanted: Wanted) {
     let mut block = [0; BLOCK];
-    let seen = watch_all(start, until, &mut block);
+    let seen = watch_all(rt, start, until, &mut block);
     if seen.failed {
         return;
     }
@@ -148,21 +149,22 @@ fn show_once(start: Stream, until: u64, font: Bytes, wanted: Wanted) {
 }
 
 // Shows the glass as the log comes, or once.
-fn show_all(places: [usize; GROUPS], told: Told, until: u64, font: Bytes) {
+fn show_all(rt: &HostRuntime, places: [usize; GROUPS], told: Told, until: u64, font: Bytes) {
     let times = told.times;
     let fresh = Panel::fresh(told.chip, times.reset, times.long, times.short);
     let start = Stream::start(fresh);
     let wanted = wanted_of(places);
     if places[LIVE] != 0 {
-        live(start, font, wanted);
+        live(rt, start, font, wanted);
     } else {
-        show_once(start, until, font, wanted);
+        show_once(rt, start, until, font, wanted);
     }
 }
 
 // What was asked for.
-fn arguments() -> Given {
+fn arguments(rt: &HostRuntime) -> Given {
     asked(
+        rt,
         b"wall",
         b"ascii, pbm, svg, dark, upright, apart, live, at TIME, font FILE, chip NAME, times R L S",
         b"wall < LOG draws what the glass showed at the end of the log: 8 rows of 80 dots, of two lines 16, two\n\
@@ -182,8 +184,8 @@ fn arguments() -> Given {
     )
 }
 
-fn main() {
-    let given = arguments();
+fn main(rt: HostRuntime) {
+    let given = arguments(&rt);
     if !given.ok {
         return;
     }
@@ -191,17 +193,17 @@ fn main() {
     if !stand_together(places) {
         return;
     }
-    let told = told_at(b"wall", places[CHIP], places[TIMES]);
+    let told = told_at(&rt, b"wall", places[CHIP], places[TIMES]);
     if !told.ok {
         return;
     }
-    let until = time_at(places[AT]);
+    let until = time_at(&rt, places[AT]);
     if !until.ok {
         return;
     }
-    let font = font_at(places[FONT]);
+    let font = font_at(&rt, places[FONT]);
     if !font.ok {
         return;
     }
-    show_all(places, told, until.value, font);
+    show_all(&rt, places, told, until.value, font);
 }

@@ -40,18 +40,18 @@ fn watch_part(stream: Stream, until: u64, part: &[u8]) -> Seen {
 }
 
 // The whole of standard input, or as much as there is up to the time.
-pub(crate) fn watch_all(start: Stream, until: u64, block: &mut [u8]) -> Seen {
+pub(crate) fn watch_all(rt: &HostRuntime, start: Stream, until: u64, block: &mut [u8]) -> Seen {
     let mut seen = Seen {
         stream: start,
         more: true,
         failed: false,
     };
     let mut input = Input::start();
-    let mut progress = Progress::start();
+    let mut progress = Progress::start(rt);
     while input.left > 0 && seen.more {
-        input = input.read(block);
+        input = input.read(rt, block);
         let n = input.len;
-        progress = progress.after(b"wall", n);
+        progress = progress.after(rt, b"wall", n);
         let stream = seen.stream;
         seen = watch_part(stream, until, &block[..n]);
     }
