@@ -1,6 +1,6 @@
 -- Two words are found the same exactly where they are equal.
 use Rattle.std.specs.Prelude.{◌≡◌, ℕ, Bool, true, false, List, [], ◌∷◌, ◌==◌, ◌≢◌, refl}
-use Rattle.std.proofs.Common.{ap, sym, ◌∙◌, true≢false, eq-eqb, eqb-true}
+use Rattle.std.proofs.Common.{ap, sym, ◌∙◌, eq-eqb, eqb-true}
 use Rattle.std.proofs.lemmas.Bool.{false≢true}
 use Rattle.laws.specs.Pick.{pick}
 use Rattle.desk.specs.Chips.{same_word}

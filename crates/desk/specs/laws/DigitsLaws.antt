@@ -1,9 +1,9 @@
 -- A number is spelled from its last digit on: what is left is the number without the digits that stand behind.
 use Rattle.std.specs.Prelude.{◌≡◌, ℕ, zero, suc, ◌+◌, ◌-◌, ◌*◌, ◌/◌, ◌%◌, ◌^◌, ◌<◌, ◌≤◌, List, [], ◌∷◌, ◌++◌, length, take, drop, slice_set, refl}
-use Rattle.std.proofs.Common.{arith, add-one, zero-add, add-zero, mod-lt, div-one, div-lt_iff_lt-mul, le-div_iff_mul-le, pow-suc, lt_of_not-le, zero-lt-suc, le_of_suc-le-suc, not-suc-le-zero, le_trans, sym, ap, subst, ◌∙◌, append_assoc, append-nil, lt-ltb, length-set, length-drop, take_all}
+use Rattle.std.proofs.Common.{arith, add-one, zero-add, add-zero, mod-lt, div-one, div-lt_iff_lt-mul, le-div_iff_mul-le, pow-suc, lt_of_not-le, zero-lt-suc, le_of_suc-le-suc, not-suc-le-zero, sym, ap, subst, ◌∙◌, append_assoc, append-nil, lt-ltb, length-set, length-drop, take_all}
 use Rattle.std.proofs.Math.Nat.{div-div-eq-div-mul, pow-succ', pow-le-pow_right}
 use Rattle.std.proofs.Math.Seq.{drop-length}
-use Rattle.io.specs.Digits.{last_digits, hex_digit_ascii, IsDigitCount}
+use Rattle.io.specs.Digits.{last_digits, hex_digit_ascii}
 use Rattle.desk.specs.Page.{Puts, PutsSome}
 use Rattle.desk.specs.Clock.{Decimal, most_digits}
 use Rattle.desk.specs.engine.Digits.{EndsIn}
