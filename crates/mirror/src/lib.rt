@@ -1,5 +1,6 @@
 // The mirror: the panel, which is the sheet's machine with a clock and at most one waiting half, and its answers.
 #![tactic(auto)]
+
 pub mod answer;
 pub mod count;
 mod flat;
