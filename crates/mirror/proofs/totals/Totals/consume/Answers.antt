@@ -3,7 +3,7 @@ use Rattle.laws.specs.laws.Lists.{all_left}
 use Rattle.framing.specs.Frame.{frame_of}
 use Rattle.mirror.specs.engine.Record.{answered}
 use Rattle.mirror.specs.engine.Reading.{consumed_of}
-use Rattle.mirror.specs.laws.PartLaws.{Counting, counting_starts, counting-ends, counting-within, counting-room, counting-goes}
+use Rattle.mirror.specs.laws.PartLaws.{Counting, counting_starts, counting_ends, counting_within, counting_room, counting_goes}
 use Rattle.mirror.specs.declared.panel.Panel.{Panel}
 use Rattle.mirror.proofs.totals.Totals.consume.Goals as goal
 
@@ -25,30 +25,30 @@ returns-then-used-eq0 c =
     let l = c.loop-display in
     let a = c.args in
     rw (c.plus.ensures, c.added.ensures, c.panel.ensures)
-    (counting-ends l.invariant _ (c.turn-live.ensures ∙ whole_part _ l.at _) c.if-used-eq0.true ∙
+    (counting_ends l.invariant _ (c.turn-live.ensures ∙ whole_part _ l.at _) c.if-used-eq0.true ∙
     ap (λ (p : Panel). consumed_of (record { panel = p; counts = a.self.counts; records = a.self.records }) a.log.now) c.of-live.ensures)
 
 pub bump-requires : goal.bump-requires
 bump-requires c =
     let l = c.loop-display in
-    counting-room l.invariant _ (c.turn-live.ensures ∙ whole_part _ l.at _) c.if-used-eq0.false (omega arith)
+    counting_room l.invariant _ (c.turn-live.ensures ∙ whole_part _ l.at _) c.if-used-eq0.false (omega arith)
 
 pub overflow_add-records : goal.overflow_add-records
 overflow_add-records c =
     let l = c.loop-display in
-    omega (arith, l.invariant.numbered, counting-within l.invariant _ (c.turn-live.ensures ∙ whole_part _ l.at _) c.if-used-eq0.false)
+    omega (arith, l.invariant.numbered, counting_within l.invariant _ (c.turn-live.ensures ∙ whole_part _ l.at _) c.if-used-eq0.false)
 
 pub overflow_add-at : goal.overflow_add-at
 overflow_add-at c =
     let l = c.loop-display in
-    omega (arith, counting-within l.invariant _ (c.turn-live.ensures ∙ whole_part _ l.at _) c.if-used-eq0.false)
+    omega (arith, counting_within l.invariant _ (c.turn-live.ensures ∙ whole_part _ l.at _) c.if-used-eq0.false)
 
 pub loop-display-smaller : goal.loop-display-smaller
 loop-display-smaller c =
     let l = c.loop-display in
-    omega (arith, counting-within l.invariant _ (c.turn-live.ensures ∙ whole_part _ l.at _) c.if-used-eq0.false)
+    omega (arith, counting_within l.invariant _ (c.turn-live.ensures ∙ whole_part _ l.at _) c.if-used-eq0.false)
 
 pub loop-display-preserved : goal.loop-display-preserved
 loop-display-preserved c =
     let l = c.loop-display in
-    rw c.bump.ensures (counting-goes l.invariant _ (c.turn-live.ensures ∙ whole_part _ l.at _) c.if-used-eq0.false)
+    rw c.bump.ensures (counting_goes l.invariant _ (c.turn-live.ensures ∙ whole_part _ l.at _) c.if-used-eq0.false)
