@@ -2,7 +2,7 @@
 ghost use Rattle.std.specs.Prelude.{◌≡◌, ◌+◌, ◌%◌};
 ghost use Rattle.desk.specs.engine.Digits.{EndsIn};
 ghost use Rattle.desk.specs.Clock.{Clock, Decimal, Hours, most_clock, most_digits, two_of, within_hour};
-ghost use Rattle.desk.specs.Page.{PutsHere, PutsSome};
+ghost use Rattle.desk.specs.Page.{Puts, PutsHere, PutsSome};
 
 use crate::page::{PAGE, has_room, paste, put};
 
@@ -100,15 +100,29 @@ pub fn put_number(page: &mut [u8; PAGE], at: usize, n: u64) -> usize
     put(page, at, &bytes[from..])
 }
 
+// Hours: two digits, and more from 100 on.
+fn put_hours(page: &mut [u8; PAGE], at: usize, hours: u64) -> usize
+    ensures { PutsSome (Hours hours) page.old at page.new result }
+{
+    let spelled = hours_of(hours);
+    let bytes = spelled.bytes;
+    let from = spelled.from;
+    put(page, at, &bytes[from..])
+}
+
+// Minutes, seconds and millionths, put as one.
+fn put_within(page: &mut [u8; PAGE], at: usize, time: u64) -> usize
+    ensures { Puts (within_hour time) page.old at page.new result }
+{
+    put(page, at, &within_hour(time))
+}
+
 // A time as hours, minutes, seconds and millionths.
 pub fn put_clock(page: &mut [u8; PAGE], at: usize, time: u64) -> usize
     ensures { PutsSome (Clock time) page.old at page.new result }
 {
-    let hours = hours_of(time / HOUR);
-    let bytes = hours.bytes;
-    let from = hours.from;
-    let a = put(page, at, &bytes[from..]);
-    put(page, a, &within_hour(time))
+    let a = put_hours(page, at, time / HOUR);
+    put_within(page, a, time)
 }
 
 // A number where the page has room for any number; else nothing.
