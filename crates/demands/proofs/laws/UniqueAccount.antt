@@ -17,34 +17,34 @@ use Rattle.account.specs.contracts.placed.Placed.kept as placed·kept
 use Rattle.demands.specs.Unique.{DeterminesAnswer, equation}
 
 module _ {M : Type 1} {𝓤 : Ura M} (𝓛 : Logic 𝓤) (mem : Memory → SProp 𝓤) (run : Routine → Fun 𝓤) where
-  -- account::account::Account::start: r ≡ accountStart panel
+  -- account::account::Account::start: result ≡ account_start panel
   pub account_start : DeterminesAnswer 𝓤 account·start.ended (account·start.clauses 𝓛 mem run)
   account_start = equation 𝓤 _ _ _ (λ κs a g r e. refl)
 
-  -- account::account::Account::next: r ≡ accountNext self (now part.entry)
+  -- account::account::Account::next: result ≡ account_next self part.now
   pub account_next : DeterminesAnswer 𝓤 account·next.ended (account·next.clauses 𝓛 mem run)
   account_next = equation 𝓤 _ _ _ (λ κs a g r e. refl)
 
-  -- account::account::Account::unfinished: r ≡ unfinishedOf self
+  -- account::account::Account::unfinished: result ≡ unfinished_of self
   pub account_unfinished : DeterminesAnswer 𝓤 account·unfinished.ended (account·unfinished.clauses 𝓛 mem run)
   account_unfinished = equation 𝓤 _ _ _ (λ κs a g r e. refl)
 
-  -- account::again::Again::after: r ≡ afterData self write
+  -- account::again::Again::after: result ≡ after_data self write
   pub again_after : DeterminesAnswer 𝓤 again·after.ended (again·after.clauses 𝓛 mem run)
   again_after = equation 𝓤 _ _ _ (λ κs a g r e. refl)
 
-  -- account::again::Again::is_quiet: r ≡ quietAt self.stage (numberOf answer) used
+  -- account::again::Again::is_quiet: result ≡ quiet_at self.stage (number_of answer) used
   pub again_quiet : DeterminesAnswer 𝓤 again·quiet.ended (again·quiet.clauses 𝓛 mem run)
   again_quiet = equation 𝓤 _ _ _ (λ κs a g r e. refl)
 
-  -- account::placed::Placed::read: r ≡ placedRead before answer first (now bytes.entry)
+  -- account::placed::Placed::read: result ≡ placed_read before answer first bytes.now
   pub placed_read : DeterminesAnswer 𝓤 placed·read.ended (placed·read.clauses 𝓛 mem run)
   placed_read = equation 𝓤 _ _ _ (λ κs a g r e. refl)
 
-  -- account::placed::Placed::line: r ≡ lineOf self
+  -- account::placed::Placed::line: result ≡ line_of self
   pub placed_line : DeterminesAnswer 𝓤 placed·line.ended (placed·line.clauses 𝓛 mem run)
   placed_line = equation 𝓤 _ _ _ (λ κs a g r e. refl)
 
-  -- account::placed::Placed::kept: r ≡ keptOf self
+  -- account::placed::Placed::kept: result ≡ kept_of self
   pub placed_kept : DeterminesAnswer 𝓤 placed·kept.ended (placed·kept.clauses 𝓛 mem run)
   placed_kept = equation 𝓤 _ _ _ (λ κs a g r e. refl)

@@ -1,4 +1,4 @@
--- Any two allowed answers are equal: each public function of `log`, and what its contract ensures.
+-- Any two allowed answers are equal: each public function of `framing`, and what its contract ensures.
 use Rattle.std.specs.Prelude.{refl, length}
 use Rattle.std.proofs.Common.{sym, ap, ◌∙◌}
 use seplogic.Ra.Ura.{Ura}
@@ -25,62 +25,62 @@ use Rattle.framing.specs.contracts.records.records as records·records
 use Rattle.demands.specs.Unique.{DeterminesAnswer, answer, equation}
 
 module _ {M : Type 1} {𝓤 : Ura M} (𝓛 : Logic 𝓤) (mem : Memory → SProp 𝓤) (run : Routine → Fun 𝓤) where
-  -- log::carry::carried: Held room bytes len r
+  -- framing::carry::carried: Held room bytes len result
   pub carried : DeterminesAnswer 𝓤 carry·carried.ended (carry·carried.clauses 𝓛 mem run)
   carried = answer 𝓤 _ _ _ (λ κs a g r e. refl) (λ κs a r s e f p q. p.count ∙ ap length (p.is ∙ sym q.is) ∙ sym q.count)
 
-  -- log::carry::Carry::empty: r ≡ carryOf []
+  -- framing::carry::Carry::empty: result ≡ carry_of []
   pub carry_empty : DeterminesAnswer 𝓤 carry·empty.ended (carry·empty.clauses 𝓛 mem run)
   carry_empty = equation 𝓤 _ _ _ (λ κs a g r e. refl)
 
-  -- log::carry::Carry::keep: r ≡ carryOf (take room (now part.entry))
+  -- framing::carry::Carry::keep: result ≡ carry_of (take room part.now)
   pub carry_keep : DeterminesAnswer 𝓤 carry·keep.ended (carry·keep.clauses 𝓛 mem run)
   carry_keep = equation 𝓤 _ _ _ (λ κs a g r e. refl)
 
-  -- log::carry::Carry::frame: r ≡ frameOf (carriedOf self)
+  -- framing::carry::Carry::frame: result ≡ frame_of (carried_of self)
   pub carry_frame : DeterminesAnswer 𝓤 carry·frame.ended (carry·frame.clauses 𝓛 mem run)
   carry_frame = equation 𝓤 _ _ _ (λ κs a g r e. refl)
 
-  -- log::carry::Carry::flaw: r ≡ flawOf (carriedOf self)
+  -- framing::carry::Carry::flaw: result ≡ flaw_of (carried_of self)
   pub carry_flaw : DeterminesAnswer 𝓤 carry·flaw.ended (carry·flaw.clauses 𝓛 mem run)
   carry_flaw = equation 𝓤 _ _ _ (λ κs a g r e. refl)
 
-  -- log::carry::Carry::wants_more: r ≡ wantsMore (carriedOf self)
+  -- framing::carry::Carry::wants_more: result ≡ wants_more (carried_of self)
   pub carry_wants_more : DeterminesAnswer 𝓤 carry·wants_more_lem.ended (carry·wants_more_lem.clauses 𝓛 mem run)
   carry_wants_more = equation 𝓤 _ _ _ (λ κs a g r e. refl)
 
-  -- log::carry::Carry::wanting: r ≡ carryOf (wantingOf (carriedOf self))
+  -- framing::carry::Carry::wanting: result ≡ carry_of (wanting_of (carried_of self))
   pub carry_wanting : DeterminesAnswer 𝓤 carry·wanting.ended (carry·wanting.clauses 𝓛 mem run)
   carry_wanting = equation 𝓤 _ _ _ (λ κs a g r e. refl)
 
-  -- log::carry::Carry::fill: r ≡ filledOf (carriedOf self) (now part.entry)
+  -- framing::carry::Carry::fill: result ≡ filled_of (carried_of self) part.now
   pub carry_fill : DeterminesAnswer 𝓤 carry·fill.ended (carry·fill.clauses 𝓛 mem run)
   carry_fill = equation 𝓤 _ _ _ (λ κs a g r e. refl)
 
-  -- log::frame::Frame::size: r ≡ sizeOf self
+  -- framing::frame::Frame::size: result ≡ size_of self
   pub frame_size_lem : DeterminesAnswer 𝓤 frame·size.ended (frame·size.clauses 𝓛 mem run)
   frame_size_lem = equation 𝓤 _ _ _ (λ κs a g r e. refl)
 
-  -- log::front::told: r ≡ toldSize (now log.entry)
+  -- framing::front::told: result ≡ told_size log.now
   pub told : DeterminesAnswer 𝓤 front·told.ended (front·told.clauses 𝓛 mem run)
   told = equation 𝓤 _ _ _ (λ κs a g r e. refl)
 
-  -- log::front::whole: r ≡ wholeSize (now log.entry)
+  -- framing::front::whole: result ≡ whole_size log.now
   pub whole : DeterminesAnswer 𝓤 front·whole.ended (front·whole.clauses 𝓛 mem run)
   whole = equation 𝓤 _ _ _ (λ κs a g r e. refl)
 
-  -- log::front::wants_more: r ≡ wantsMore (now log.entry)
+  -- framing::front::wants_more: result ≡ wants_more log.now
   pub wants_more_lem : DeterminesAnswer 𝓤 front·wants_more_lem.ended (front·wants_more_lem.clauses 𝓛 mem run)
   wants_more_lem = equation 𝓤 _ _ _ (λ κs a g r e. refl)
 
-  -- log::front::frame: r ≡ frameOf (now log.entry)
+  -- framing::front::frame: result ≡ frame_of log.now
   pub frame : DeterminesAnswer 𝓤 front·frame.ended (front·frame.clauses 𝓛 mem run)
   frame = equation 𝓤 _ _ _ (λ κs a g r e. refl)
 
-  -- log::front::flaw: r ≡ flawOf (now log.entry)
+  -- framing::front::flaw: result ≡ flaw_of log.now
   pub flaw : DeterminesAnswer 𝓤 front·flaw.ended (front·flaw.clauses 𝓛 mem run)
   flaw = equation 𝓤 _ _ _ (λ κs a g r e. refl)
 
-  -- log::records::records: r ≡ recordsOf (now log.entry)
+  -- framing::records::records: result ≡ records_of log.now
   pub records : DeterminesAnswer 𝓤 records·records.ended (records·records.clauses 𝓛 mem run)
   records = equation 𝓤 _ _ _ (λ κs a g r e. refl)

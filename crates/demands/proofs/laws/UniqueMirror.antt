@@ -40,122 +40,122 @@ use Rattle.mirror.specs.contracts.stream.Stream.read as stream·read
 use Rattle.demands.specs.Unique.{Determines, DeterminesAnswer, answer, equation}
 
 module _ {M : Type 1} {𝓤 : Ura M} (𝓛 : Logic 𝓤) (mem : Memory → SProp 𝓤) (run : Routine → Fun 𝓤) where
-  -- mirror::answer::Answer::number: r ≡ numberOf self
+  -- mirror::answer::Answer::number: result ≡ number_of self
   pub answer_number : DeterminesAnswer 𝓤 answer·number.ended (answer·number.clauses 𝓛 mem run)
   answer_number = equation 𝓤 _ _ _ (λ κs a g r e. refl)
 
-  -- mirror::answer::Answer::clocked: r ≡ clocked (numberOf self)
+  -- mirror::answer::Answer::clocked: result ≡ clocked (number_of self)
   pub answer_clocked : DeterminesAnswer 𝓤 answer·clocked.ended (answer·clocked.clauses 𝓛 mem run)
   answer_clocked = equation 𝓤 _ _ _ (λ κs a g r e. refl)
 
-  -- mirror::answer::Answer::place: r ≡ placeOf (numberOf self)
+  -- mirror::answer::Answer::place: result ≡ place_of (number_of self)
   pub answer_place : DeterminesAnswer 𝓤 answer·place.ended (answer·place.clauses 𝓛 mem run)
   answer_place = equation 𝓤 _ _ _ (λ κs a g r e. refl)
 
-  -- mirror::half::Half::fits: r ≡ halfFits eight self
+  -- mirror::half::Half::fits: result ≡ half_fits eight self
   pub half_fits : DeterminesAnswer 𝓤 half·fits.ended (half·fits.clauses 𝓛 mem run)
   half_fits = equation 𝓤 _ _ _ (λ κs a g r e. refl)
 
-  -- mirror::panel::Panel::fresh: r ≡ freshPanel chip reset long short
+  -- mirror::panel::Panel::fresh: result ≡ fresh_panel chip reset long short
   pub panel_fresh : DeterminesAnswer 𝓤 panel·fresh.ended (panel·fresh.clauses 𝓛 mem run)
   panel_fresh = equation 𝓤 _ _ _ (λ κs a g r e. refl)
 
-  -- mirror::panel::Panel::sound: r ≡ soundPanel self
+  -- mirror::panel::Panel::sound: result ≡ sound_panel self
   pub panel_sound : DeterminesAnswer 𝓤 panel·sound.ended (panel·sound.clauses 𝓛 mem run)
   panel_sound = equation 𝓤 _ _ _ (λ κs a g r e. refl)
 
-  -- mirror::panel::Panel::record: Records self (now log.entry) r
+  -- mirror::panel::Panel::record: Records self log.now result
   pub panel_record : DeterminesAnswer 𝓤 panel·record.ended (panel·record.clauses 𝓛 mem run)
   panel_record = answer 𝓤 _ _ _ (λ κs a g r e. refl) (λ κs a r s e f p q. p.is ∙ sym q.is)
 
-  -- mirror::panel::Panel::written: Tells self r
+  -- mirror::panel::Panel::written: Tells self result
   pub panel_written : DeterminesAnswer 𝓤 the-written-panel.ended (the-written-panel.clauses 𝓛 mem run)
   panel_written = answer 𝓤 _ _ _ (λ κs a g r e. refl) (λ κs a r s e f p q. p.told ∙ sym q.told)
 
-  -- mirror::written::PlacesWritten::refusal: r ≡ writtenRefusal self
+  -- mirror::written::PlacesWritten::refusal: result ≡ written_refusal self
   pub places_written_refusal : DeterminesAnswer 𝓤 placesWritten·refusal.ended (placesWritten·refusal.clauses 𝓛 mem run)
   places_written_refusal = equation 𝓤 _ _ _ (λ κs a g r e. refl)
 
-  -- mirror::stream::Stream::start: r ≡ startOf panel
+  -- mirror::stream::Stream::start: result ≡ start_of panel
   pub stream_start : DeterminesAnswer 𝓤 stream·start.ended (stream·start.clauses 𝓛 mem run)
   stream_start = equation 𝓤 _ _ _ (λ κs a g r e. refl)
 
-  -- mirror::stream::Stream::feed: r ≡ feedOf self (now part.entry)
+  -- mirror::stream::Stream::feed: result ≡ feed_of self part.now
   pub stream_feed : DeterminesAnswer 𝓤 stream·feed.ended (stream·feed.clauses 𝓛 mem run)
   stream_feed = equation 𝓤 _ _ _ (λ κs a g r e. refl)
 
-  -- mirror::stream::Stream::next: Replies self (now part.entry) r
+  -- mirror::stream::Stream::next: Replies self part.now result
   pub stream_next : DeterminesAnswer 𝓤 stream·next.ended (stream·next.clauses 𝓛 mem run)
   stream_next = answer 𝓤 _ _ _ (λ κs a g r e. refl) (λ κs a r s e f p q. p.is ∙ sym q.is)
 
-  -- mirror::stream::Stream::end: r ≡ endOf self
+  -- mirror::stream::Stream::end: result ≡ end_of self
   pub stream_end : DeterminesAnswer 𝓤 stream·end.ended (stream·end.clauses 𝓛 mem run)
   stream_end = equation 𝓤 _ _ _ (λ κs a g r e. refl)
 
-  -- mirror::panel::Panel::run: Runs self (now log.entry) r
+  -- mirror::panel::Panel::run: Runs self log.now result
   pub panel_run : DeterminesAnswer 𝓤 panel·run.ended (panel·run.clauses 𝓛 mem run)
   panel_run = answer 𝓤 _ _ _ (λ κs a g r e. refl) (λ κs a r s e f p q. p.is ∙ sym q.is)
 
-  -- mirror::count::raise: r ≡ raised n
+  -- mirror::count::raise: result ≡ raised n
   pub raise : DeterminesAnswer 𝓤 count·raise.ended (count·raise.clauses 𝓛 mem run)
   raise = equation 𝓤 _ _ _ (λ κs a g r e. refl)
 
-  -- mirror::count::tally: now counts.exit ≡ tallied (now counts.entry) answer
+  -- mirror::count::tally: counts.new ≡ tallied counts.old answer
   pub tally : Determines 𝓤 count·tally.ended (count·tally.clauses 𝓛 mem run) (λ κs e. e.0.now)
   tally = record { Says = _; stated = λ κs a g r e. refl; one = λ κs a r s e f p q. (refl, p ∙ sym q) }
 
-  -- mirror::stream::Reply::refusal: r ≡ endNumber self
+  -- mirror::stream::Reply::refusal: result ≡ end_number self
   pub reply_refusal : DeterminesAnswer 𝓤 reply·refusal.ended (reply·refusal.clauses 𝓛 mem run)
   reply_refusal = equation 𝓤 _ _ _ (λ κs a g r e. refl)
 
-  -- mirror::stream::Run::refusal: r ≡ runNumber self
+  -- mirror::stream::Run::refusal: result ≡ run_number self
   pub run_refusal : DeterminesAnswer 𝓤 run·refusal.ended (run·refusal.clauses 𝓛 mem run)
   run_refusal = equation 𝓤 _ _ _ (λ κs a g r e. refl)
 
-  -- mirror::stream::Stream::panel: r ≡ panelIn self
+  -- mirror::stream::Stream::panel: result ≡ panel_in self
   pub stream_panel : DeterminesAnswer 𝓤 stream·panel.ended (stream·panel.clauses 𝓛 mem run)
   stream_panel = equation 𝓤 _ _ _ (λ κs a g r e. refl)
 
-  -- mirror::stream::Stream::number: r ≡ numberIn self
+  -- mirror::stream::Stream::number: result ≡ number_in self
   pub stream_number : DeterminesAnswer 𝓤 stream·number.ended (stream·number.clauses 𝓛 mem run)
   stream_number = equation 𝓤 _ _ _ (λ κs a g r e. refl)
 
-  -- mirror::stream::Stream::front: r ≡ frontOf self (now part.entry)
+  -- mirror::stream::Stream::front: result ≡ front_of self part.now
   pub stream_front : DeterminesAnswer 𝓤 stream·front.ended (stream·front.clauses 𝓛 mem run)
   stream_front = equation 𝓤 _ _ _ (λ κs a g r e. refl)
 
-  -- mirror::reading::Reading::answer: r ≡ answerRead self
+  -- mirror::reading::Reading::answer: result ≡ answer_read self
   pub reading_answer : DeterminesAnswer 𝓤 reading·answer.ended (reading·answer.clauses 𝓛 mem run)
   reading_answer = equation 𝓤 _ _ _ (λ κs a g r e. refl)
 
-  -- mirror::reading::Reading::eight: r ≡ eightRead self
+  -- mirror::reading::Reading::eight: result ≡ eight_read self
   pub reading_eight : DeterminesAnswer 𝓤 reading·eight.ended (reading·eight.clauses 𝓛 mem run)
   reading_eight = equation 𝓤 _ _ _ (λ κs a g r e. refl)
 
-  -- mirror::reading::Reading::half: r ≡ halfOf self.live
+  -- mirror::reading::Reading::half: result ≡ half_of self.live
   pub reading_half : DeterminesAnswer 𝓤 reading·half.ended (reading·half.clauses 𝓛 mem run)
   reading_half = equation 𝓤 _ _ _ (λ κs a g r e. refl)
 
-  -- mirror::reading::Reading::last: r ≡ lastRead self
+  -- mirror::reading::Reading::last: result ≡ last_read self
   pub reading_last : DeterminesAnswer 𝓤 reading·last.ended (reading·last.clauses 𝓛 mem run)
   reading_last = equation 𝓤 _ _ _ (λ κs a g r e. refl)
 
-  -- mirror::reading::Reading::number: r ≡ raised self.records
+  -- mirror::reading::Reading::number: result ≡ raised self.records
   pub reading_number : DeterminesAnswer 𝓤 reading·number.ended (reading·number.clauses 𝓛 mem run)
   reading_number = equation 𝓤 _ _ _ (λ κs a g r e. refl)
 
-  -- mirror::reading::Reading::used: r ≡ usedRead self
+  -- mirror::reading::Reading::used: result ≡ used_read self
   pub reading_used : DeterminesAnswer 𝓤 reading·used.ended (reading·used.clauses 𝓛 mem run)
   reading_used = equation 𝓤 _ _ _ (λ κs a g r e. refl)
 
-  -- mirror::stream::Stream::ended: r ≡ endedOf self
+  -- mirror::stream::Stream::ended: result ≡ ended_of self
   pub stream_ended : DeterminesAnswer 𝓤 stream·ended.ended (stream·ended.clauses 𝓛 mem run)
   stream_ended = equation 𝓤 _ _ _ (λ κs a g r e. refl)
 
-  -- mirror::stream::Stream::gathered: r ≡ filledOf (waitingBytes self) (now part.entry)
+  -- mirror::stream::Stream::gathered: result ≡ filled_of (waiting_bytes self) part.now
   pub stream_gathered : DeterminesAnswer 𝓤 stream·gathered.ended (stream·gathered.clauses 𝓛 mem run)
   stream_gathered = equation 𝓤 _ _ _ (λ κs a g r e. refl)
 
-  -- mirror::stream::Stream::read: r ≡ readOf self (totalsRead reading display pattern counts) (now tail.entry)
+  -- mirror::stream::Stream::read: result ≡ read_of self (totals_read reading display pattern counts) tail.now
   pub stream_read : DeterminesAnswer 𝓤 stream·read.ended (stream·read.clauses 𝓛 mem run)
   stream_read = equation 𝓤 _ _ _ (λ κs a g r e. refl)
