@@ -39,5 +39,5 @@ pub data PutsHere (most : ℕ) (Kind : List ℕ → Type 0) (before : List ℕ) 
   full : page_size < at + most → after ≡ before → end ≡ at → PutsHere most Kind before at after end
 
 -- where so many bytes go: here, if the page has room for all of them, and otherwise at the front, once it was written out
-abbrev pub place_for : ℕ → ℕ → ℕ
-place_for size end = pick (nat_le (end + size) page_size) end 0
+abbrev pub place_with_room : ℕ → ℕ → ℕ
+place_with_room size end = pick (nat_le (end + size) page_size) end 0

@@ -1,7 +1,7 @@
 // What is to be written, gathered on a page that is written out whenever it is full. Each function answers where the next
 // byte goes.
 ghost use Rattle.std.specs.Prelude.{◌≡◌, ◌+◌, ◌≤◌, [], ◌∷◌, length, nat_le};
-ghost use Rattle.desk.specs.Page.{page_size, place_for, Puts, PutsHere};
+ghost use Rattle.desk.specs.Page.{page_size, place_with_room, Puts, PutsHere};
 ghost use Rattle.desk.specs.engine.Page.{Placed};
 
 use crate::bytes::held;
@@ -81,7 +81,7 @@ pub fn put(page: &mut [u8; PAGE], at: usize, bytes: &[u8]) -> usize
 
 // Where so many bytes go: here, if the page has room for all of them, and otherwise at the front, once it was written out.
 pub fn room_for(page: &[u8; PAGE], at: usize, size: usize) -> usize
-    ensures { result ≡ place_for size at }
+    ensures { result ≡ place_with_room size at }
 {
     if has_room(at, size) {
         return at;

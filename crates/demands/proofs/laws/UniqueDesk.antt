@@ -89,7 +89,7 @@ module _ {M : Type 1} {𝓤 : Ura M} (𝓛 : Logic 𝓤) (mem : Memory → SProp
         one = λ κs a r s e f p q. (here_end _ _ (λ x y p q. p ∙ sym q) _ _ _ _ _ _ p q, here_page _ _ (λ x y p q. p ∙ sym q) _ _ _ _ _ _ p q);
       }
 
-  -- desk::page::room_for: result ≡ place_for size at
+  -- desk::page::room_for: result ≡ place_with_room size at
   pub room_for : DeterminesAnswer 𝓤 page·room.ended (page·room.clauses 𝓛 mem run)
   room_for = equation 𝓤 _ _ _ (λ κs a g r e. refl)
 
