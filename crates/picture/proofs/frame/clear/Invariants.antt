@@ -1,5 +1,5 @@
 -- The frame is filled from the front with 0.
-use Rattle.std.proofs.Common.{◌≡◌, ◌-◌}
+use Rattle.std.proofs.Common.{◌≡◌}
 use Rattle.dots.specs.laws.TableLaws.{Filled}
 use Rattle.picture.specs.Frame.{glass}
 use Rattle.picture.proofs.frame.clear.Given as goal
