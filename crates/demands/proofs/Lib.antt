@@ -1,1 +1,2 @@
 pub mod laws
+pub mod cases

@@ -13,5 +13,4 @@ pub mod GlassCases
 pub mod ModeCases
 pub mod MirroredCases
 pub mod StrikeCases
-pub mod Refuted
 pub mod RefutedPicture

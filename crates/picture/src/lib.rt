@@ -1,6 +1,7 @@
 // The picture of a panel: patterns as arrays, where a dot lands, in mode A and in mode B, the codes and the cursor on the screen,
 // the painter, the count of lit dots and the comparison.
 #![tactic(auto)]
+
 pub mod compare;
 mod count;
 pub mod cursor;

@@ -72,7 +72,7 @@ module _ {M : Type 1} {𝓤 : Ura M} (𝓛 : Logic 𝓤) (mem : Memory → SProp
   painted_refusal = equation 𝓤 _ _ _ (λ κs a g r e. refl)
 
   -- picture::pattern::pattern: result ≡ pattern_of memory number
-  pub pattern : DeterminesAnswer 𝓤 pattern·pattern.ended (pattern·pattern.clauses 𝓤 H A mem run)
+  pub pattern : DeterminesAnswer 𝓤 pattern·pattern.ended (pattern·pattern.clauses 𝓛 mem run)
   pattern = equation 𝓤 _ _ _ (λ κs a g r e. refl)
 
   -- picture::pattern::patterns: result ≡ patterns_of memory
