@@ -1,8 +1,7 @@
 // The three lines of a living picture that tell of the log: the clock, the counts, and the answer to the last transfer. Each
 // function that puts some of them on a page answers where the next byte goes.
 ghost use Rattle.std.specs.Prelude.{◌≡◌};
-ghost use Rattle.desk.specs.Clock.{PutsSome};
-ghost use Rattle.desk.specs.Page.{Puts};
+ghost use Rattle.desk.specs.Page.{Puts, PutsSome};
 ghost use Rattle.wall.specs.Status.{AnswersLine, ClockLine, Count, last_after, last_line, last_name, name_of};
 
 use desk::clock::{put_clock, put_number};

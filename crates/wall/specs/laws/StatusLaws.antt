@@ -1,7 +1,6 @@
 -- Bytes of one kind put on a page after bytes of another.
 use Rattle.std.specs.Prelude.{ℕ, refl, List, ◌++◌}
-use Rattle.desk.specs.Clock.{PutsSome}
-use Rattle.desk.specs.Page.{Puts}
+use Rattle.desk.specs.Page.{Puts, PutsSome}
 use Rattle.desk.specs.laws.PageLaws.{puts_then}
 use Rattle.wall.specs.Status.{Exactly, Then}
 

@@ -1,8 +1,8 @@
 use Rattle.std.proofs.Common.{length, ◌-◌, ◌≤◌}
 use Rattle.wall.proofs.follow.follow_records.Given as goal
 
-abbrev pub invariant-loop-display : goal.invariant-loop-display
-invariant-loop-display l = l.at ≤ length l.bytes
+abbrev pub invariant-loop-more : goal.invariant-loop-more
+invariant-loop-more l = l.at ≤ length l.bytes
 
-abbrev pub decreases-loop-display : goal.decreases-loop-display
-decreases-loop-display l = length l.bytes - l.at
+abbrev pub decreases-loop-more : goal.decreases-loop-more
+decreases-loop-more l = length l.bytes - l.at
