@@ -4,7 +4,6 @@ use Rattle.desk.specs.Clock.{Clock, Decimal}
 use Rattle.framing.specs.declared.frame.Frame.{Frame}
 use Rattle.framing.specs.declared.frame.Frame.TheVariants.{Cut, Bad, Transfer, Reset}
 use Rattle.mirror.specs.declared.answer.Answer.{Answer}
-use Rattle.mirror.specs.declared.answer.Answer.TheVariants as Answer
 use Rattle.wall.specs.declared.status.Last.{Last}
 use Rattle.wall.specs.declared.status.Last.TheVariants.{Nothing, Answered}
 
