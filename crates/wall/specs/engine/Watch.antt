@@ -1,4 +1,4 @@
--- A record that ends the watch, told by its own time before it is answered. That it is the one is the law `later-told` (FollowLaws.antt).
+-- A record that ends the watch, told by its own time before it is answered. That it is the one is the law `later_told` (FollowLaws.antt).
 use Rattle.std.specs.Prelude.{ℕ, Bool, false, ◌&&◌, leb, ltb}
 use Rattle.framing.specs.declared.frame.Frame.{Frame}
 use Rattle.framing.specs.declared.frame.Frame.TheVariants as frame
