@@ -5,7 +5,7 @@ usage: tools/respell.py [--dry]      once, at the top of the repository
 
 A name of a definition, a lemma, a field or a constructor that specs/ or proofs/ declare, and that has a dash or a capital within,
 gets underscores: movedDisplay and place-below become moved_display and place_below. Functions, strings and comments of src/, inputs and
-outputs keep theirs. Pages are respelled between backticks alone. Where a new name stands already in a file that says the old one, the
+outputs keep theirs. Pages and the comments of antt are respelled between backticks alone. Where a new name stands already in a file that says the old one, the
 name gets the ending that AWAY gives it; --dry lists those that AWAY doesn't have, and writes nothing.
 """
 
@@ -87,8 +87,7 @@ def turned(text, names):
 def turned_antt(text, names):
     out = []
     for line in text.split("\n"):
-        code, mark, said = line.partition("--") if re.match(r"^\s*--", line) else (line, "", "")
-        out.append(turned(code, names) + mark + said)
+        out.append(turned_page(line, names) if re.match(r"^\s*--", line) else turned(line, names))
     return "\n".join(out)
 
 

@@ -1,5 +1,5 @@
 -- The table of answers (document 01, "Answer numbers", "Busy", "Halves"; doubtful, document 02, wish 2), row by row and in the stated order.
--- It does not look at how the engine decides: `answered-sound` (TableLaws.antt) holds the one against the other.
+-- It does not look at how the engine decides: `answered_sound` (TableLaws.antt) holds the one against the other.
 use Rattle.std.specs.Prelude.{ℕ, ◌*◌, ◌%◌, ◌/◌, ◌≡◌, Bool, true, false, not, ◌&&◌, ◌||◌, List, ltb, leb, eqb}
 use Rattle.std.specs.Bool.{beq}
 use Rattle.laws.specs.Pick.{pick}

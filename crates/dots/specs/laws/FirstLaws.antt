@@ -1,4 +1,4 @@
--- Laws of `first` and `firstDot`.
+-- Laws of `first` and `first_dot`.
 use Prim.Native.Nat.{ℕ, zero, suc, ◌+◌, ◌-◌, ◌≤◌, ◌<◌}
 use Rattle.std.specs.Prelude.{◌≡◌, Bool, true}
 use Rattle.std.proofs.Math.Path.{refl, ap}

@@ -1,4 +1,4 @@
--- Laws of `bit`, `one`, `pack` and `withBit`.
+-- Laws of `bit`, `one`, `pack` and `with_bit`.
 use Rattle.std.specs.Prelude.{ℕ, zero, suc, ◌+◌, ◌*◌, ◌/◌, ◌%◌, ◌^◌, ◌<◌, max, ◌≡◌, refl, Bool, true, false, eqb}
 use Rattle.std.proofs.Common.{sym, ap, ◌∙◌, pow-suc, div-one, not-suc-le-zero, le_of_suc-le-suc, arith, shr-shr, eqb-true}
 use Rattle.std.proofs.Math.Nat.{zero-div}

@@ -1,4 +1,4 @@
--- What the engine makes of one record, way by way. That it is the table's row is the law `answered-sound` (TableLaws.antt).
+-- What the engine makes of one record, way by way. That it is the table's row is the law `answered_sound` (TableLaws.antt).
 use Rattle.std.specs.Prelude.{ℕ, ◌*◌, ◌%◌, ◌/◌, Bool, ltb}
 use Rattle.laws.specs.Pick.{pick}
 use Rattle.framing.specs.declared.frame.Frame.{Frame}

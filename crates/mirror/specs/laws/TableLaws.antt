@@ -25,7 +25,7 @@ use Rattle.mirror.specs.declared.half.Half.TheVariants.{Empty, Ignored, Waiting}
 use Rattle.mirror.specs.declared.panel.Panel.{Panel}
 use Rattle.mirror.specs.declared.record.Recorded.{Recorded}
 
--- `transferFor` with all that it looks at apart, so that each can be generalised
+-- `transfer_for` with all that it looks at apart, so that each can be generalised
 abbrev number_by : Bool → Half → Bool → Bool → Bool → Bool → ℕ → ℕ
 number_by eight half free good rs reads byte =
     let first = not eight && not (waits half) in

@@ -1,4 +1,4 @@
--- The eight rows that the painter shows at a position of a line. That their dots are the lit ones is the law `shown-lit`.
+-- The eight rows that the painter shows at a position of a line. That their dots are the lit ones is the law `shown_lit`.
 use Rattle.std.specs.Prelude.{ℕ, ◌+◌, ◌-◌, ◌*◌, ◌%◌, ◌<◌, ◌≡◌, Bool, not, ◌&&◌, List, [], ltb, get_or, replicate, set}
 use Rattle.laws.specs.Pick.{pick}
 use Rattle.laws.specs.Bit.{bit}
