@@ -14,7 +14,7 @@ module _ {M : Type 1} (𝓤 : Ura M) (T : Ended) (c : Clauses 𝓤 T) where
   Lifetimes = Lfts T.signature.lifetimes
 
   -- a contract determines the answer, and what is lent to be written to, as it is afterwards. `lent` picks that from the arguments at exit: the
-  -- first is e.0, the second e .1 .0, the third e .1 .1 .0
+  -- first is e.0, the second e.1.0, the third e.1.1.0
   pub record Determines {L : Type 0} (lent : (κs : Lifetimes) → AtExit T κs → L) : Type 2 where
     -- what it ensures, for arguments a, of the answer r and of the arguments e at exit
     pub Says : (κs : Lifetimes) → Args T.signature κs → Res T.signature κs → AtExit T κs → Type 0

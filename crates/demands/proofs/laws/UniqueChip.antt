@@ -37,8 +37,8 @@ use Rattle.chip.specs.contracts.registers.Registers.here as registers·here
 use Rattle.chip.specs.contracts.registers.Registers.read as registers·read
 use Rattle.chip.specs.contracts.registers.Registers.write as registers·write
 use Rattle.chip.specs.contracts.address.Address.fits as address·fits
-use Rattle.chip.specs.contracts.sheet.blank_past as sheet·blank_past_lem
-use Rattle.chip.specs.contracts.sheet.pattern_fits as sheet·pattern_fits_lem
+use Rattle.chip.specs.contracts.sheet.blank_past as sheet·blank-past
+use Rattle.chip.specs.contracts.sheet.pattern_fits as sheet·pattern-fits
 use Rattle.chip.specs.contracts.sheet.Sheet.fresh as sheet·fresh
 use Rattle.chip.specs.contracts.sheet.Sheet.sound as sheet·sound
 use Rattle.demands.specs.Unique.{Determines, DeterminesAnswer, answer, equation}
@@ -171,11 +171,11 @@ module _ {M : Type 1} {𝓤 : Ura M} (𝓛 : Logic 𝓤) (mem : Memory → SProp
   address_fits = equation 𝓤 _ _ _ (λ κs a g r e. refl)
 
   -- chip::sheet::blank_past: result ≡ blank_past chip display
-  pub blank_past_lem : DeterminesAnswer 𝓤 sheet·blank_past_lem.ended (sheet·blank_past_lem.clauses 𝓛 mem run)
+  pub blank_past_lem : DeterminesAnswer 𝓤 sheet·blank-past.ended (sheet·blank-past.clauses 𝓛 mem run)
   blank_past_lem = equation 𝓤 _ _ _ (λ κs a g r e. refl)
 
   -- chip::sheet::pattern_fits: result ≡ pattern_fits pattern
-  pub pattern_fits_lem : DeterminesAnswer 𝓤 sheet·pattern_fits_lem.ended (sheet·pattern_fits_lem.clauses 𝓛 mem run)
+  pub pattern_fits_lem : DeterminesAnswer 𝓤 sheet·pattern-fits.ended (sheet·pattern-fits.clauses 𝓛 mem run)
   pattern_fits_lem = equation 𝓤 _ _ _ (λ κs a g r e. refl)
 
   -- chip::sheet::Sheet::fresh: result ≡ fresh_sheet chip

@@ -12,13 +12,13 @@ use Rattle.framing.specs.contracts.carry.Carry.empty as carry·empty
 use Rattle.framing.specs.contracts.carry.Carry.keep as carry·keep
 use Rattle.framing.specs.contracts.carry.Carry.frame as carry·frame
 use Rattle.framing.specs.contracts.carry.Carry.flaw as carry·flaw
-use Rattle.framing.specs.contracts.carry.Carry.wants_more as carry·wants_more_lem
+use Rattle.framing.specs.contracts.carry.Carry.wants_more as carry·wants-more
 use Rattle.framing.specs.contracts.carry.Carry.wanting as carry·wanting
 use Rattle.framing.specs.contracts.carry.Carry.fill as carry·fill
 use Rattle.framing.specs.contracts.frame.Frame.size as frame·size
 use Rattle.framing.specs.contracts.front.told as front·told
 use Rattle.framing.specs.contracts.front.whole as front·whole
-use Rattle.framing.specs.contracts.front.wants_more as front·wants_more_lem
+use Rattle.framing.specs.contracts.front.wants_more as front·wants-more
 use Rattle.framing.specs.contracts.front.frame as front·frame
 use Rattle.framing.specs.contracts.front.flaw as front·flaw
 use Rattle.framing.specs.contracts.records.records as records·records
@@ -46,7 +46,7 @@ module _ {M : Type 1} {𝓤 : Ura M} (𝓛 : Logic 𝓤) (mem : Memory → SProp
   carry_flaw = equation 𝓤 _ _ _ (λ κs a g r e. refl)
 
   -- framing::carry::Carry::wants_more: result ≡ wants_more (carried_of self)
-  pub carry_wants_more : DeterminesAnswer 𝓤 carry·wants_more_lem.ended (carry·wants_more_lem.clauses 𝓛 mem run)
+  pub carry_wants_more : DeterminesAnswer 𝓤 carry·wants-more.ended (carry·wants-more.clauses 𝓛 mem run)
   carry_wants_more = equation 𝓤 _ _ _ (λ κs a g r e. refl)
 
   -- framing::carry::Carry::wanting: result ≡ carry_of (wanting_of (carried_of self))
@@ -70,7 +70,7 @@ module _ {M : Type 1} {𝓤 : Ura M} (𝓛 : Logic 𝓤) (mem : Memory → SProp
   whole = equation 𝓤 _ _ _ (λ κs a g r e. refl)
 
   -- framing::front::wants_more: result ≡ wants_more log.now
-  pub wants_more_lem : DeterminesAnswer 𝓤 front·wants_more_lem.ended (front·wants_more_lem.clauses 𝓛 mem run)
+  pub wants_more_lem : DeterminesAnswer 𝓤 front·wants-more.ended (front·wants-more.clauses 𝓛 mem run)
   wants_more_lem = equation 𝓤 _ _ _ (λ κs a g r e. refl)
 
   -- framing::front::frame: result ≡ frame_of log.now

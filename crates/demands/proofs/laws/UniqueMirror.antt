@@ -14,8 +14,8 @@ use Rattle.mirror.specs.contracts.half.Half.fits as half·fits
 use Rattle.mirror.specs.contracts.panel.Panel.fresh as panel·fresh
 use Rattle.mirror.specs.contracts.panel.Panel.sound as panel·sound
 use Rattle.mirror.specs.contracts.panel.Panel.«record» as panel·record
-use Rattle.mirror.specs.contracts.panel.Panel.written as the-written-panel
-use Rattle.mirror.specs.contracts.written.PlacesWritten.refusal as placesWritten·refusal
+use Rattle.mirror.specs.contracts.panel.Panel.written as panel·written
+use Rattle.mirror.specs.contracts.written.PlacesWritten.refusal as places-written·refusal
 use Rattle.mirror.specs.contracts.stream.Stream.start as stream·start
 use Rattle.mirror.specs.contracts.stream.Stream.next as stream·next
 use Rattle.mirror.specs.contracts.stream.Stream.feed as stream·feed
@@ -69,11 +69,11 @@ module _ {M : Type 1} {𝓤 : Ura M} (𝓛 : Logic 𝓤) (mem : Memory → SProp
   panel_record = answer 𝓤 _ _ _ (λ κs a g r e. refl) (λ κs a r s e f p q. p.is ∙ sym q.is)
 
   -- mirror::panel::Panel::written: Tells self result
-  pub panel_written : DeterminesAnswer 𝓤 the-written-panel.ended (the-written-panel.clauses 𝓛 mem run)
+  pub panel_written : DeterminesAnswer 𝓤 panel·written.ended (panel·written.clauses 𝓛 mem run)
   panel_written = answer 𝓤 _ _ _ (λ κs a g r e. refl) (λ κs a r s e f p q. p.told ∙ sym q.told)
 
   -- mirror::written::PlacesWritten::refusal: result ≡ written_refusal self
-  pub places_written_refusal : DeterminesAnswer 𝓤 placesWritten·refusal.ended (placesWritten·refusal.clauses 𝓛 mem run)
+  pub places_written_refusal : DeterminesAnswer 𝓤 places-written·refusal.ended (places-written·refusal.clauses 𝓛 mem run)
   places_written_refusal = equation 𝓤 _ _ _ (λ κs a g r e. refl)
 
   -- mirror::stream::Stream::start: result ≡ start_of panel
