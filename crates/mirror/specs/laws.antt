@@ -18,4 +18,5 @@ pub mod BusyLaws
 pub mod CarriedLaws
 pub mod GoodLaws
 pub mod AskedLaws
+pub mod CountedLaws
 pub mod WrittenLaws

@@ -1,9 +1,12 @@
-// The answers to a record, and their numbers.
+// The answers to a record, their numbers and their names; and why a call is refused.
 ghost use Rattle.std.specs.Prelude.{◌≡◌};
-ghost use Rattle.mirror.specs.Answer.{number_of, place_of};
+ghost use Rattle.mirror.specs.Answer.{name_of, number_of, place_of};
 ghost use Rattle.mirror.specs.Answers.{clocked};
+ghost use Rattle.mirror.specs.Refusal.{refusal_number};
 
-#[derive(Clone, Copy)]
+use crate::count::COUNTS;
+
+#[derive(Clone, Copy, PartialEq, Eq)]
 pub enum Answer {
     Taken,
     Doubtful,
@@ -61,6 +64,57 @@ impl Answer {
             Answer::Nothing => 8,
             Answer::Cut => 9,
             Answer::Unsound => 9,
+        }
+    }
+
+    pub fn name(self) -> &'static str
+        ensures { result.now ≡ name_of self }
+    {
+        match self {
+            Answer::Taken => "taken",
+            Answer::Doubtful => "doubtful",
+            Answer::Held => "held",
+            Answer::Status => "status",
+            Answer::Ignored => "ignored",
+            Answer::Torn => "torn",
+            Answer::Back => "back",
+            Answer::Bad => "bad",
+            Answer::Nothing => "none",
+            Answer::Cut => "cut",
+            Answer::Unsound => "unsound",
+        }
+    }
+}
+
+// The answers that have a count, each at its place.
+pub const COUNTED: [Answer; COUNTS] = [
+    Answer::Taken,
+    Answer::Doubtful,
+    Answer::Held,
+    Answer::Status,
+    Answer::Ignored,
+    Answer::Torn,
+    Answer::Back,
+    Answer::Bad,
+    Answer::Nothing,
+];
+
+// Why a call is refused: a log or record that is cut, a frame of another size, a panel or chip that is not sound.
+#[derive(Clone, Copy, PartialEq, Eq)]
+pub enum Refusal {
+    Cut,
+    Size,
+    Unsound,
+}
+
+impl Refusal {
+    pub fn number(self) -> u8
+        ensures { result ≡ refusal_number self }
+    {
+        match self {
+            Refusal::Cut => 8,
+            Refusal::Size => 9,
+            Refusal::Unsound => 10,
         }
     }
 }

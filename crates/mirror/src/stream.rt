@@ -5,9 +5,9 @@ ghost use Rattle.mirror.specs.Stream.{start_of, panel_in, number_in, waiting_byt
 ghost use Rattle.framing.specs.Carry.{filled_of};
 ghost use Rattle.mirror.specs.engine.Read.{totals_read, read_of};
 ghost use Rattle.mirror.specs.engine.Reading.{stopped_of};
-ghost use Rattle.mirror.specs.Promise.{Replies, Runs, end_number, run_number};
+ghost use Rattle.mirror.specs.Promise.{Replies, Runs, end_refusal, run_refusal};
 
-use crate::answer::Answer;
+use crate::answer::{Answer, Refusal};
 use crate::count::{COUNTS, raise};
 use crate::panel::Panel;
 use crate::reading::Reading;
@@ -25,9 +25,8 @@ pub struct Stream {
     carry: Carry,
     // A cut was met: nothing more is read.
     over: bool,
-    // The panel handed in, and whether it was refused.
-    given: Panel,
-    refused: bool,
+    // The panel handed in, where it was refused.
+    refused: Option<Panel>,
 }
 
 #[derive(Clone, Copy)]
@@ -41,19 +40,26 @@ pub struct Run {
 
 // What a call for one answer comes to: the answer; more bytes wanted; a cut, or a panel that was refused: these two are final.
 #[derive(Clone, Copy)]
-pub enum Reply {
-    Answered { answer: Answer, byte: u8 },
+pub enum Reply<T> {
+    Answered(T),
     More,
     Cut,
     Refused,
 }
 
-// The stream after it, and how many bytes of the part were taken.
+// How a record was answered, with the byte on the bus.
 #[derive(Clone, Copy)]
-pub struct Next {
-    pub stream: Stream,
+pub struct Answered {
+    pub answer: Answer,
+    pub byte: u8,
+}
+
+// What was asked as it is after the call, and how many bytes of the part were taken.
+#[derive(Clone, Copy)]
+pub struct Next<S, T> {
+    pub after: S,
     pub taken: usize,
-    pub reply: Reply,
+    pub reply: Reply<T>,
 }
 
 // A record, and what is wrong with it where it is bad.
@@ -63,29 +69,28 @@ pub struct Front {
     pub flaw: Flaw,
 }
 
-impl Reply {
-    // The number of the answer that ends a reading, 8 or 10; 0 where it goes on.
-    pub fn refusal(self) -> u8
-        ensures { result ≡ end_number self }
+impl<T: Copy> Reply<T> {
+    // What ends a reading; none where it goes on.
+    pub fn refusal(self) -> Option<Refusal>
+        ensures { result ≡ end_refusal self }
     {
         match self {
-            Reply::Answered { answer: _, byte: _ } => 0,
-            Reply::More => 0,
-            Reply::Cut => 8,
-            Reply::Refused => 10,
+            Reply::Answered(_) | Reply::More => None,
+            Reply::Cut => Some(Refusal::Cut),
+            Reply::Refused => Some(Refusal::Unsound),
         }
     }
 }
 
 impl Run {
-    // The number of the answer that ended it, 8 or 10; 0 where it was read to its end.
-    pub fn refusal(self) -> u8
-        ensures { result ≡ run_number self }
+    // What ended it; none where it was read to its end.
+    pub fn refusal(self) -> Option<Refusal>
+        ensures { result ≡ run_refusal self }
     {
         if self.refused {
-            return 10;
+            return Some(Refusal::Unsound);
         }
-        if self.cut { 8 } else { 0 }
+        if self.cut { Some(Refusal::Cut) } else { None }
     }
 }
 
@@ -98,16 +103,14 @@ impl Stream {
                 totals: Totals::start(panel),
                 carry: Carry::empty(),
                 over: false,
-                given: panel,
-                refused: false,
+                refused: None,
             };
         }
         Stream {
             totals: Totals::start(Panel::fresh(ONE_LINE, 0, 0, 0)),
             carry: Carry::empty(),
             over: false,
-            given: panel,
-            refused: true,
+            refused: Some(panel),
         }
     }
 
@@ -115,11 +118,10 @@ impl Stream {
     pub fn panel(self) -> Panel
         ensures { result ≡ panel_in self }
     {
-        if self.refused {
-            return self.given;
+        match self.refused {
+            Some(given) => given,
+            None => self.totals.panel,
         }
-        let totals = self.totals;
-        totals.panel
     }
 
     // The number of the record that comes next, counted from 1.
@@ -190,24 +192,24 @@ impl Stream {
     }
 
     // No record is answered: a cut was met, or more bytes are wanted.
-    fn stopped(self, taken: usize) -> Next
+    fn stopped(self, taken: usize) -> Next<Stream, Answered>
         ensures { result ≡ stopped_of self taken }
     {
         let reply = if self.over { Reply::Cut } else { Reply::More };
         Next {
-            stream: self,
+            after: self,
             taken,
             reply,
         }
     }
 
     // The next record alone: no more of the part is taken than it needs.
-    pub fn next(self, part: &[u8]) -> Next
+    pub fn next(self, part: &[u8]) -> Next<Stream, Answered>
         ensures { Replies self part.now result }
     {
-        if self.refused {
+        if self.refused.is_some() {
             return Next {
-                stream: self,
+                after: self,
                 taken: 0,
                 reply: Reply::Refused,
             };
@@ -227,14 +229,13 @@ impl Stream {
         if r.used == 0 {
             return self.rest(totals, &bytes[..held]).stopped(taken);
         }
-        let answer = r.answer;
         Next {
-            stream: self.rest(totals.count(r), &bytes[..0]),
+            after: self.rest(totals.count(r), &bytes[..0]),
             taken,
-            reply: Reply::Answered {
-                answer,
+            reply: Reply::Answered(Answered {
+                answer: r.answer,
                 byte: r.byte,
-            },
+            }),
         }
     }
 
@@ -242,10 +243,7 @@ impl Stream {
     pub fn ended(self) -> bool
         ensures { result ≡ ended_of self }
     {
-        if self.refused {
-            return true;
-        }
-        self.over
+        self.refused.is_some() || self.over
     }
 
     // The bytes waiting, with just those of the part that make their record whole.
@@ -282,8 +280,7 @@ impl Stream {
     {
         let totals = self.totals;
         let records = totals.records;
-        if self.refused {
-            let given = self.given;
+        if let Some(given) = self.refused {
             return Run {
                 panel: given,
                 counts: [0; COUNTS],

@@ -10,12 +10,13 @@ use contract.Monad.{Fun}
 use Rattle.mirror.specs.contracts.answer.Answer.number as answer·number
 use Rattle.mirror.specs.contracts.answer.Answer.clocked as answer·clocked
 use Rattle.mirror.specs.contracts.answer.Answer.place as answer·place
+use Rattle.mirror.specs.contracts.answer.Answer.name as answer·name
+use Rattle.mirror.specs.contracts.answer.Refusal.number as refusal·number
 use Rattle.mirror.specs.contracts.half.Half.fits as half·fits
 use Rattle.mirror.specs.contracts.panel.Panel.fresh as panel·fresh
 use Rattle.mirror.specs.contracts.panel.Panel.sound as panel·sound
 use Rattle.mirror.specs.contracts.panel.Panel.«record» as panel·record
 use Rattle.mirror.specs.contracts.panel.Panel.written as panel·written
-use Rattle.mirror.specs.contracts.written.PlacesWritten.refusal as places-written·refusal
 use Rattle.mirror.specs.contracts.stream.Stream.start as stream·start
 use Rattle.mirror.specs.contracts.stream.Stream.next as stream·next
 use Rattle.mirror.specs.contracts.stream.Stream.feed as stream·feed
@@ -52,6 +53,14 @@ module _ {M : Type 1} {𝓤 : Ura M} (𝓛 : Logic 𝓤) (mem : Memory → SProp
   pub answer_place : DeterminesAnswer 𝓤 answer·place.ended (answer·place.clauses 𝓛 mem run)
   answer_place = equation 𝓤 _ _ _ (λ κs a g r e. refl)
 
+  -- mirror::answer::Answer::name: result.now ≡ name_of self
+  pub answer_name : DeterminesAnswer 𝓤 answer·name.ended (answer·name.clauses 𝓛 mem run)
+  answer_name = equation 𝓤 _ _ _ (λ κs a g r e. refl)
+
+  -- mirror::answer::Refusal::number: result ≡ refusal_number self
+  pub refusal_number : DeterminesAnswer 𝓤 refusal·number.ended (refusal·number.clauses 𝓛 mem run)
+  refusal_number = equation 𝓤 _ _ _ (λ κs a g r e. refl)
+
   -- mirror::half::Half::fits: result ≡ half_fits eight self
   pub half_fits : DeterminesAnswer 𝓤 half·fits.ended (half·fits.clauses 𝓛 mem run)
   half_fits = equation 𝓤 _ _ _ (λ κs a g r e. refl)
@@ -71,10 +80,6 @@ module _ {M : Type 1} {𝓤 : Ura M} (𝓛 : Logic 𝓤) (mem : Memory → SProp
   -- mirror::panel::Panel::written: Tells self result
   pub panel_written : DeterminesAnswer 𝓤 panel·written.ended (panel·written.clauses 𝓛 mem run)
   panel_written = answer 𝓤 _ _ _ (λ κs a g r e. refl) (λ κs a r s e f p q. p.told ∙ sym q.told)
-
-  -- mirror::written::PlacesWritten::refusal: result ≡ written_refusal self
-  pub places_written_refusal : DeterminesAnswer 𝓤 places-written·refusal.ended (places-written·refusal.clauses 𝓛 mem run)
-  places_written_refusal = equation 𝓤 _ _ _ (λ κs a g r e. refl)
 
   -- mirror::stream::Stream::start: result ≡ start_of panel
   pub stream_start : DeterminesAnswer 𝓤 stream·start.ended (stream·start.clauses 𝓛 mem run)
@@ -104,11 +109,11 @@ module _ {M : Type 1} {𝓤 : Ura M} (𝓛 : Logic 𝓤) (mem : Memory → SProp
   pub tally : Determines 𝓤 count·tally.ended (count·tally.clauses 𝓛 mem run) (λ κs e. e.0.now)
   tally = record { Says = _; stated = λ κs a g r e. refl; one = λ κs a r s e f p q. (refl, p ∙ sym q) }
 
-  -- mirror::stream::Reply::refusal: result ≡ end_number self
+  -- mirror::stream::Reply::refusal: result ≡ end_refusal self
   pub reply_refusal : DeterminesAnswer 𝓤 reply·refusal.ended (reply·refusal.clauses 𝓛 mem run)
   reply_refusal = equation 𝓤 _ _ _ (λ κs a g r e. refl)
 
-  -- mirror::stream::Run::refusal: result ≡ run_number self
+  -- mirror::stream::Run::refusal: result ≡ run_refusal self
   pub run_refusal : DeterminesAnswer 𝓤 run·refusal.ended (run·refusal.clauses 𝓛 mem run)
   run_refusal = equation 𝓤 _ _ _ (λ κs a g r e. refl)
 

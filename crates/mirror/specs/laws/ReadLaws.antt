@@ -111,7 +111,7 @@ module _ (st : Stream) (log : List ℕ) (w : waiting_bytes st ≡ []) (u : cut_a
 
   pub next_read : Going st →
       let r = answered (frame_of log) st.totals.panel in
-      record { stream = rested_of st (counted st.totals r) []; taken = size_of (frame_of log); reply = Answered r.answer r.byte } ≡ next_of st log
+      record { after = rested_of st (counted st.totals r) []; taken = size_of (frame_of log); reply = Answered (record { answer = r.answer; byte = r.byte }) } ≡ next_of st log
   next_read g =
       next_goes own_fed g (answered (frame_of log) st.totals.panel) (ap (λ f. answered f st.totals.panel) (sym (frame_take front)))
       (read_used st.totals.panel)

@@ -74,21 +74,21 @@ read_some s h = by (cut_at s) refl
 
 -- a tail that wants no more ends the reading, whatever it holds
 ended : Stream → Totals → Stream
-ended st t = record { totals = t; carry = carry_of []; over = true; given = st.given; refused = st.refused }
+ended st t = record { totals = t; carry = carry_of []; over = true; refused = st.refused }
 
 rested_over : (st : Stream) (t : Totals) (rest : List ℕ) → wants_more rest ≡ false → rested_of st t rest ≡ ended st t
 unfolding ended
 rested_over st t rest w =
-    ap (λ b. record { totals = t; carry = carry_of (pick b rest []); over = not b; given = st.given; refused = st.refused }) w
+    ap (λ b. record { totals = t; carry = carry_of (pick b rest []); over = not b; refused = st.refused }) w
 
 -- what `rest` answers, by its test
 pub rested_wants : (st : Stream) (t : Totals) (rest : List ℕ) → wants_more rest ≡ true →
-    record { totals = t; carry = carry_of rest; over = false; given = st.given; refused = st.refused } ≡ rested_of st t rest
+    record { totals = t; carry = carry_of rest; over = false; refused = st.refused } ≡ rested_of st t rest
 rested_wants st t rest w =
-    sym (ap (λ b. record { totals = t; carry = carry_of (pick b rest []); over = not b; given = st.given; refused = st.refused }) w)
+    sym (ap (λ b. record { totals = t; carry = carry_of (pick b rest []); over = not b; refused = st.refused }) w)
 
 pub rested_ends : (st : Stream) (t : Totals) (rest : List ℕ) → wants_more rest ≡ false →
-    record { totals = t; carry = carry_of []; over = true; given = st.given; refused = st.refused } ≡ rested_of st t rest
+    record { totals = t; carry = carry_of []; over = true; refused = st.refused } ≡ rested_of st t rest
 unfolding ended
 rested_ends st t rest w = sym (rested_over st t rest w)
 

@@ -3,7 +3,7 @@ use Rattle.laws.specs.laws.Lists.{all_left}
 use Rattle.framing.specs.Frame.{frame_of}
 use Rattle.mirror.specs.engine.Record.{answered}
 use Rattle.mirror.specs.engine.Reading.{consumed_of}
-use Rattle.mirror.specs.laws.PartLaws.{Counting, counting_starts, counting_ends, counting_within, counting_room, counting_goes}
+use Rattle.mirror.specs.laws.PartLaws.{counting_starts, counting_ends, counting_within, counting_room, counting_goes}
 use Rattle.mirror.specs.declared.panel.Panel.{Panel}
 use Rattle.mirror.proofs.totals.Totals.consume.Goals as goal
 
