@@ -1,10 +1,10 @@
-// Numbers and clocks, put on a page. Each function answers where the next byte goes.
-ghost use Rattle.std.specs.Prelude.{◌≡◌, ◌+◌, ◌%◌};
+// Numbers and clocks, put on a page.
+ghost use Rattle.std.specs.Prelude.{◌≡◌, ◌+◌, ◌%◌, ◌≤◌, drop};
 ghost use Rattle.desk.specs.engine.Digits.{EndsIn};
 ghost use Rattle.desk.specs.Clock.{Clock, Decimal, Hours, most_clock, most_digits, two_of, within_hour};
 ghost use Rattle.desk.specs.Page.{Puts, PutsHere, PutsSome};
 
-use crate::page::{PAGE, has_room, paste, put};
+use crate::page::Page;
 
 // Times are in millionths of a second.
 const SECOND: u64 = 1000000;
@@ -26,6 +26,15 @@ const CLOCK: usize = DIGITS + WITHIN;
 struct Digits {
     bytes: [u8; DIGITS],
     from: usize,
+}
+
+impl Digits {
+    fn as_slice(&self) -> &[u8]
+        requires { self.now.from ≤ most_digits }
+        ensures { result.now ≡ drop self.now.from self.now.bytes }
+    {
+        &self.bytes[self.from..]
+    }
 }
 
 // The last digit of a number in decimal.
@@ -90,67 +99,45 @@ fn within_hour(time: u64) -> [u8; WITHIN]
     ]
 }
 
-// A number in decimal.
-pub fn put_number(page: &mut [u8; PAGE], at: usize, n: u64) -> usize
-    ensures { PutsSome (Decimal n) page.old at page.new result }
-{
-    let number = spelled(n);
-    let bytes = number.bytes;
-    let from = number.from;
-    put(page, at, &bytes[from..])
-}
-
-// Hours: two digits, and more from 100 on.
-fn put_hours(page: &mut [u8; PAGE], at: usize, hours: u64) -> usize
-    ensures { PutsSome (Hours hours) page.old at page.new result }
-{
-    let spelled = hours_of(hours);
-    let bytes = spelled.bytes;
-    let from = spelled.from;
-    put(page, at, &bytes[from..])
-}
-
-// Minutes, seconds and millionths, put as one.
-fn put_within(page: &mut [u8; PAGE], at: usize, time: u64) -> usize
-    ensures { Puts (within_hour time) page.old at page.new result }
-{
-    put(page, at, &within_hour(time))
-}
-
-// A time as hours, minutes, seconds and millionths.
-pub fn put_clock(page: &mut [u8; PAGE], at: usize, time: u64) -> usize
-    ensures { PutsSome (Clock time) page.old at page.new result }
-{
-    let a = put_hours(page, at, time / HOUR);
-    put_within(page, a, time)
-}
-
-// A number where the page has room for any number; else nothing.
-pub fn put_number_here(page: &mut [u8; PAGE], at: usize, n: u64) -> usize
-    ensures { PutsHere most_digits (Decimal n) page.old at page.new result }
-{
-    if has_room(at, DIGITS) {
-        let number = spelled(n);
-        let bytes = number.bytes;
-        let from = number.from;
-        paste(page, at, &bytes[from..]);
-        return at + DIGITS - from;
+impl Page {
+    // A number in decimal.
+    pub fn put_number(&mut self, n: u64)
+        ensures { PutsSome (Decimal n) self.old self.new }
+    {
+        self.put(spelled(n).as_slice());
     }
-    at
-}
 
-// A clock where the page has room for any clock; else nothing.
-pub fn put_clock_here(page: &mut [u8; PAGE], at: usize, time: u64) -> usize
-    ensures { PutsHere most_clock (Clock time) page.old at page.new result }
-{
-    if has_room(at, CLOCK) {
-        let hours = hours_of(time / HOUR);
-        let bytes = hours.bytes;
-        let from = hours.from;
-        paste(page, at, &bytes[from..]);
-        let a = at + DIGITS - from;
-        paste(page, a, &within_hour(time));
-        return a + WITHIN;
+    // Hours: two digits, and more from 100 on.
+    fn put_hours(&mut self, hours: u64)
+        ensures { PutsSome (Hours hours) self.old self.new }
+    {
+        self.put(hours_of(hours).as_slice());
     }
-    at
+
+    // A time as hours, minutes, seconds and millionths.
+    pub fn put_clock(&mut self, time: u64)
+        ensures { PutsSome (Clock time) self.old self.new }
+    {
+        self.put_hours(time / HOUR);
+        self.put(&within_hour(time));
+    }
+
+    // A number where the page has room for any number; else nothing.
+    pub fn put_number_here(&mut self, n: u64)
+        ensures { PutsHere most_digits (Decimal n) self.old self.new }
+    {
+        if self.has_room(DIGITS) {
+            self.paste(spelled(n).as_slice());
+        }
+    }
+
+    // A clock where the page has room for any clock; else nothing.
+    pub fn put_clock_here(&mut self, time: u64)
+        ensures { PutsHere most_clock (Clock time) self.old self.new }
+    {
+        if self.has_room(CLOCK) {
+            self.paste(hours_of(time / HOUR).as_slice());
+            self.paste(&within_hour(time));
+        }
+    }
 }

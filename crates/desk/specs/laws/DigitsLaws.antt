@@ -1,10 +1,9 @@
 -- A number is spelled from its last digit on: what is left is the number without the digits that stand behind.
-use Rattle.std.specs.Prelude.{◌≡◌, ℕ, zero, suc, ◌+◌, ◌-◌, ◌*◌, ◌/◌, ◌%◌, ◌^◌, ◌<◌, ◌≤◌, List, [], ◌∷◌, ◌++◌, length, take, drop, slice_set, refl}
-use Rattle.std.proofs.Common.{arith, add-one, zero-add, add-zero, mod-lt, div-one, div-lt_iff_lt-mul, le-div_iff_mul-le, pow-suc, lt_of_not-le, zero-lt-suc, le_of_suc-le-suc, not-suc-le-zero, sym, ap, subst, ◌∙◌, append_assoc, append-nil, lt-ltb, length-set, length-drop, take_all}
+use Rattle.std.specs.Prelude.{◌≡◌, ℕ, zero, suc, ◌+◌, ◌-◌, ◌*◌, ◌/◌, ◌%◌, ◌^◌, ◌<◌, ◌≤◌, List, [], ◌∷◌, ◌++◌, length, drop, slice_set, refl}
+use Rattle.std.proofs.Common.{arith, add-one, zero-add, add-zero, mod-lt, div-one, div-lt_iff_lt-mul, le-div_iff_mul-le, pow-suc, lt_of_not-le, zero-lt-suc, le_of_suc-le-suc, not-suc-le-zero, sym, ap, subst, ◌∙◌, append_assoc, append-nil, lt-ltb, length-set}
 use Rattle.std.proofs.Math.Nat.{div-div-eq-div-mul, pow-succ', pow-le-pow_right}
 use Rattle.std.proofs.Math.Seq.{drop-length}
 use Rattle.io.specs.Digits.{last_digits, hex_digit_ascii}
-use Rattle.desk.specs.Page.{Puts, PutsSome}
 use Rattle.desk.specs.Clock.{Decimal, most_digits}
 use Rattle.desk.specs.engine.Digits.{EndsIn}
 
@@ -118,25 +117,3 @@ module _ (n : ℕ) (bytes : List ℕ) (from rest : ℕ) (fits : n < 2 ^ 64) (s :
                 written = sym (behind_one 0) ∙ ap (λ (j : ℕ). last_digits 10 j n) (zero-add (s.done + 1));
               };
         }
-
--- the part of the array that is put
-module _ (Kind : List ℕ → Type 0) (bytes : List ℕ) (from : ℕ) (e : EndsIn Kind bytes from) where
-  shown_length : length (drop from bytes) ≡ most_digits - from
-  shown_length = length-drop from bytes ∙ ap (λ (k : ℕ). k - from) e.long
-
-  pub part : take (most_digits - from) (drop from bytes) ≡ drop from bytes
-  part = take_all (most_digits - from) (drop from bytes) (omega (arith, shown_length))
-
-  pub part_length : length (take (most_digits - from) (drop from bytes)) ≡ most_digits - from
-  part_length = ap length part ∙ shown_length
-
-  pub part_puts : (before after : List ℕ) (at end : ℕ) → Puts (take (most_digits - from) (drop from bytes)) before at after end → PutsSome Kind before at after end
-  part_puts before after at end P =
-      record { bytes = drop from bytes; kind = e.kind; puts = subst (λ (s : List ℕ). Puts s before at after end) part P }
-
-  -- and pasted, where the page has room for the most digits
-  pub part_pasted : (before after : List ℕ) (at : ℕ) → Puts (take (most_digits - from) (drop from bytes)) before at after (at + length (take (most_digits - from) (drop from bytes)))
-      → PutsSome Kind before at after (at + most_digits - from)
-  part_pasted before after at P =
-      let next : at + length (take (most_digits - from) (drop from bytes)) ≡ at + most_digits - from = omega (arith, part_length, e.inside) in
-      subst (PutsSome Kind before at after) next (part_puts before after at _ P)
