@@ -38,7 +38,10 @@ use Rattle.mirror.specs.contracts.reading.Reading.used as reading·used
 use Rattle.mirror.specs.contracts.stream.Stream.ended as stream·ended
 use Rattle.mirror.specs.contracts.stream.Stream.gathered as stream·gathered
 use Rattle.mirror.specs.contracts.stream.Stream.read as stream·read
-use Rattle.demands.specs.Unique.{Determines, DeterminesAnswer, answer, equation}
+use Rattle.demands.specs.Unique.{Determines, DeterminesAnswer, DeterminesShown, answer, equation, shown_equation}
+use denote.RattleType.{RattleType}
+use mir.Syntax.{Dict}
+use Rattle.std.specs.declared.clone.Clone as Clone
 
 module _ {M : Type 1} {𝓤 : Ura M} (𝓛 : Logic 𝓤) (mem : Memory → SProp 𝓤) (run : Routine → Fun 𝓤) where
   -- mirror::answer::Answer::number: result ≡ number_of self
@@ -54,8 +57,8 @@ module _ {M : Type 1} {𝓤 : Ura M} (𝓛 : Logic 𝓤) (mem : Memory → SProp
   answer_place = equation 𝓤 _ _ _ (λ κs a g r e. refl)
 
   -- mirror::answer::Answer::name: result.now ≡ name_of self
-  pub answer_name : DeterminesAnswer 𝓤 answer·name.ended (answer·name.clauses 𝓛 mem run)
-  answer_name = equation 𝓤 _ _ _ (λ κs a g r e. refl)
+  pub answer_name : DeterminesShown 𝓤 answer·name.ended (answer·name.clauses 𝓛 mem run) (λ κs r. r.now)
+  answer_name = shown_equation 𝓤 _ _ _ _ (λ κs a g r e. refl)
 
   -- mirror::answer::Refusal::number: result ≡ refusal_number self
   pub refusal_number : DeterminesAnswer 𝓤 refusal·number.ended (refusal·number.clauses 𝓛 mem run)
@@ -110,8 +113,8 @@ module _ {M : Type 1} {𝓤 : Ura M} (𝓛 : Logic 𝓤) (mem : Memory → SProp
   tally = record { Says = _; stated = λ κs a g r e. refl; one = λ κs a r s e f p q. (refl, p ∙ sym q) }
 
   -- mirror::stream::Reply::refusal: result ≡ end_refusal self
-  pub reply_refusal : DeterminesAnswer 𝓤 reply·refusal.ended (reply·refusal.clauses 𝓛 mem run)
-  reply_refusal = equation 𝓤 _ _ _ (λ κs a g r e. refl)
+  pub reply_refusal : (T : RattleType) (G : Clone.Ghosts T.Denot) (d : Dict) → DeterminesAnswer 𝓤 (reply·refusal.ended T G d) (reply·refusal.clauses T G d 𝓛 mem run)
+  reply_refusal T G d = equation 𝓤 _ _ _ (λ κs a g r e. refl)
 
   -- mirror::stream::Run::refusal: result ≡ run_refusal self
   pub run_refusal : DeterminesAnswer 𝓤 run·refusal.ended (run·refusal.clauses 𝓛 mem run)
