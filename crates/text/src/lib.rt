@@ -9,10 +9,14 @@ pub fn digit(n: u8) -> u8
     ensures { result ≡ digit_of n }
 {
     let low = n % 16;
-    if low < 10 { 48 + low } else { 55 + low }
+    if low < 10 {
+        b'0' + low
+    } else {
+        b'A' - 10 + low
+    }
 }
 
-// Two upper-case hexadecimal digits.
+// Two upper-case hexadecimal digits: bytes for a page that is filled in place, where a format would ask for a String.
 pub fn hex(byte: u8) -> [u8; 2]
     ensures { result ≡ hex_of byte }
 {
