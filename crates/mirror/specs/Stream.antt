@@ -15,17 +15,17 @@ use Rattle.mirror.specs.declared.totals.Totals.{Totals}
 use Rattle.mirror.specs.declared.stream.Stream.{Stream}
 use Rattle.mirror.specs.declared.stream.Run.{Run}
 use Rattle.mirror.specs.declared.stream.Next.{Next}
-use Rattle.mirror.specs.declared.stream.Answered as answered
+use Rattle.mirror.specs.declared.stream.Verdict.{Verdict}
 use Rattle.mirror.specs.declared.stream.Reply.{Reply}
 use Rattle.mirror.specs.declared.stream.Front.{Front}
 use Rattle.mirror.specs.declared.stream.Reply.TheVariants.{Answered, More, Cut, Refused}
 
 -- what a stream answers to a call for one record
 abbrev pub StreamReply : Type 0
-StreamReply = Reply answered.Answered
+StreamReply = Reply Verdict
 
 abbrev pub StreamNext : Type 0
-StreamNext = Next Stream answered.Answered
+StreamNext = Next Stream Verdict
 
 -- what a log read with an unsound panel is counted with: only its number of records is shown
 abbrev pub stand_in : Panel

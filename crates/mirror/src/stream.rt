@@ -49,7 +49,7 @@ pub enum Reply<T> {
 
 // How a record was answered, with the byte on the bus.
 #[derive(Clone, Copy)]
-pub struct Answered {
+pub struct Verdict {
     pub answer: Answer,
     pub byte: u8,
 }
@@ -192,7 +192,7 @@ impl Stream {
     }
 
     // No record is answered: a cut was met, or more bytes are wanted.
-    fn stopped(self, taken: usize) -> Next<Stream, Answered>
+    fn stopped(self, taken: usize) -> Next<Stream, Verdict>
         ensures { result ≡ stopped_of self taken }
     {
         let reply = if self.over { Reply::Cut } else { Reply::More };
@@ -204,7 +204,7 @@ impl Stream {
     }
 
     // The next record alone: no more of the part is taken than it needs.
-    pub fn next(self, part: &[u8]) -> Next<Stream, Answered>
+    pub fn next(self, part: &[u8]) -> Next<Stream, Verdict>
         ensures { Replies self part.now result }
     {
         if self.refused.is_some() {
@@ -232,7 +232,7 @@ impl Stream {
         Next {
             after: self.rest(totals.count(r), &bytes[..0]),
             taken,
-            reply: Reply::Answered(Answered {
+            reply: Reply::Answered(Verdict {
                 answer: r.answer,
                 byte: r.byte,
             }),
