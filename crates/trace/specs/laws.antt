@@ -1,1 +1,2 @@
+pub mod PanelFileLaws
 pub mod RecordsLaws

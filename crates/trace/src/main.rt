@@ -11,14 +11,14 @@ ghost use Rattle.std.specs.Prelude.{◌<◌};
 
 use answers::{Done, answer_all};
 use desk::arguments::{GROUPS, Given, asked};
-use desk::bytes::{Bytes, load};
+use desk::bytes::{Bytes, held, load};
 use desk::input::BLOCK;
 use desk::print::complain;
 use desk::told::told_at;
 use frames::{frame_at, second_place, size_at};
 use mirror::panel::Panel;
 use mirror::stream::Stream;
-use panel_file::{PANEL_SIZE, fits, panel_of};
+use panel_file::{Misfit, panel_in};
 use picture::pattern::{FONT_SIZE, TALL};
 use records::record_all;
 use show::{show_difference, show_end, show_painting, show_run};
@@ -99,18 +99,18 @@ fn loaded_panel(rt: &HostRuntime, place: usize, fresh: Panel) -> Started {
     if !file.ok {
         return none;
     }
-    if file.len != PANEL_SIZE {
-        complain(b"trace", b"a panel file has 106 bytes");
-        return none;
-    }
     let bytes = file.bytes;
-    if !fits(bytes) {
-        complain(b"trace", b"the panel file holds a byte that no panel has");
-        return none;
-    }
-    Started {
-        ok: true,
-        panel: panel_of(bytes),
+    let n = held(&bytes, file.len);
+    match panel_in(&bytes[..n]) {
+        Ok(panel) => Started { ok: true, panel },
+        Err(Misfit::Size) => {
+            complain(b"trace", b"a panel file has 106 bytes");
+            none
+        }
+        Err(Misfit::Byte) => {
+            complain(b"trace", b"the panel file holds a byte that no panel has");
+            none
+        }
     }
 }
 
