@@ -1,21 +1,19 @@
-use Rattle.std.proofs.Common.{arith}
-use borrow.Author.Tests.{not-true, not-false}
+use Rattle.std.proofs.Common.{◌∙◌, sym, true≢false, eq-eqb, eqb-true}
 use Rattle.desk.specs.laws.NumberLaws.{wordless, begun, onward, stopped, ended}
 use Rattle.desk.proofs.number.number_of.Goals as goal
 
-pub returns-then-word-eq0 : goal.returns-then-word-eq0
-returns-then-word-eq0 c = wordless c.args.word.now c.args.most c.if-word-eq0.true
+pub returns-then-is_empty : goal.returns-then-is_empty
+returns-then-is_empty c = wordless _ _ (eqb-true _ 0 (sym c.is_empty.ensures ∙ c.if-is_empty.true))
 
-pub loop-i-init : goal.loop-i-init
-loop-i-init c = begun c.args.word.now c.args.most c.if-word-eq0.false
+pub loop-digit-init : goal.loop-digit-init
+loop-digit-init c = begun _ _ (λ e. true≢false (sym (eq-eqb _ 0 e) ∙ sym c.is_empty.ensures ∙ c.if-is_empty.false))
 
-pub returns-then-not-next : goal.returns-then-not-next
-returns-then-not-next c =
-    stopped c.args.word.now c.args.most c.loop-i.value c.loop-i.i c.loop-i.invariant (omega arith) c.then-next.result c.then-next.ensures (not-true _ c.if-not-next.true)
+pub returns-in_err-value : goal.returns-in_err-value
+returns-in_err-value c =
+    c.from_residual.ensures ∙ stopped _ _ _ _ c.loop-digit.invariant c.loop-digit-test.true (sym c.then.ensures ∙ c.in_err-value.was)
 
-pub loop-i-preserved : goal.loop-i-preserved
-loop-i-preserved c =
-    onward c.args.word.now c.args.most c.loop-i.value c.loop-i.i c.loop-i.invariant (omega arith) c.then-next.result c.then-next.ensures (not-false _ c.if-not-next.false)
+pub loop-digit-preserved : goal.loop-digit-preserved
+loop-digit-preserved c = onward _ _ _ _ c.loop-digit.invariant c.loop-digit-test.true _ (sym c.then.ensures ∙ c.in_ok-value.was)
 
 pub returns : goal.returns
-returns c = ended c.args.word.now c.args.most c.loop-i.value c.loop-i.i c.loop-i.invariant (omega arith)
+returns c = ended _ _ _ _ c.loop-digit.invariant c.loop-digit-test.false
