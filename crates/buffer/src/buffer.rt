@@ -54,8 +54,7 @@ impl<const ROOM: usize> Buffer<ROOM> {
 
     // One byte after those held, where there is room.
     pub fn push(&mut self, byte: u8) -> Result<(), Full>
-        ensures answer { result ≡ push_answer self.old }
-        ensures after { self.new ≡ pushed byte self.old }
+        ensures { (result ≡ push_answer self.old) × (self.new ≡ pushed byte self.old) }
     {
         if self.len >= ROOM {
             return Err(Full);

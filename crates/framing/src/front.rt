@@ -32,7 +32,7 @@ fn time(log: &[u8]) -> u64
 }
 
 // The record's size that its length tells; none where the length isn't there yet or lies outside 2 to 64.
-#[tactic(auto, using(crate::specs::laws::FrontLaws::told_none, crate::specs::laws::FrontLaws::told_low, crate::specs::laws::FrontLaws::told_high, crate::specs::laws::FrontLaws::told_size_lem))]
+#[tactic(auto, using(crate::specs::laws::FrontLaws::told_laws))]
 pub fn told(log: &[u8]) -> Option<usize>
     ensures { result ≡ told_size log.now }
 {
@@ -62,7 +62,7 @@ pub fn wants_more(log: &[u8]) -> bool
 }
 
 // A transfer of the right length: its time and control are tested here.
-#[tactic(auto, using(crate::specs::laws::FrameLaws::late_transfer, crate::specs::laws::FrameLaws::stray_whole, crate::specs::laws::FrameLaws::transfer_whole))]
+#[tactic(auto, using(crate::specs::laws::FrameLaws::transfer_laws))]
 fn transfer(log: &[u8]) -> Frame
     requires { Whole log.now 14 1 }
     ensures { result ≡ frame_of log.now }
@@ -84,7 +84,7 @@ fn transfer(log: &[u8]) -> Frame
 }
 
 // A reset of the right length.
-#[tactic(auto, using(crate::specs::laws::FrameLaws::late_reset, crate::specs::laws::FrameLaws::reset_whole))]
+#[tactic(auto, using(crate::specs::laws::FrameLaws::reset_laws))]
 fn reset(log: &[u8]) -> Frame
     requires { Whole log.now 12 2 }
     ensures { result ≡ frame_of log.now }
@@ -97,7 +97,7 @@ fn reset(log: &[u8]) -> Frame
 }
 
 // Any record, by its size and kind.
-#[tactic(auto, using(crate::specs::laws::FrontLaws::some_front, crate::specs::laws::FrameLaws::none_frame, crate::specs::laws::FrameLaws::other_frame))]
+#[tactic(auto, using(crate::specs::laws::FrameLaws::any_laws))]
 fn any(log: &[u8]) -> Frame
     ensures { result ≡ frame_of log.now }
 {
@@ -126,7 +126,7 @@ pub fn frame(log: &[u8]) -> Frame
 }
 
 // What is wrong with the record at the front: the first of these, whatever follows it.
-#[tactic(auto, using(crate::specs::laws::FrontLaws::some_front, crate::specs::laws::FlawLaws::none_flaw, crate::specs::laws::FlawLaws::kind_flaw, crate::specs::laws::FlawLaws::transfer_length_flaw, crate::specs::laws::FlawLaws::reset_length_flaw, crate::specs::laws::FlawLaws::transfer_time_flaw, crate::specs::laws::FlawLaws::reset_time_flaw, crate::specs::laws::FlawLaws::control_flaw, crate::specs::laws::FlawLaws::transfer_no_flaw, crate::specs::laws::FlawLaws::reset_no_flaw))]
+#[tactic(auto, using(crate::specs::laws::FlawLaws::flaw_laws))]
 pub fn flaw(log: &[u8]) -> Option<Flaw>
     ensures { result ≡ flaw_of log.now }
 {

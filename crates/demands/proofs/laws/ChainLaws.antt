@@ -6,11 +6,11 @@ use Rattle.std.proofs.Math.Bool.{true}
 use mathlib.Core.List.{List, [], ◌∷◌, ◌++◌, append-nil, append_assoc}
 use Rattle.std.proofs.lemmas.Bool.{eqb-false}
 use Rattle.laws.specs.Pick.{pick}
-use Rattle.framing.specs.Frame.{frame_of, record_size, cut_at, whole_size, wants_more}
+use Rattle.framing.specs.Frame.{frame_of, record_size, cut_at, wants_more}
 use Rattle.framing.specs.Frames.{frames, tail, joined}
 use Rattle.framing.specs.laws.CutLaws.{none_want, wants_cut}
 use Rattle.framing.specs.laws.FrontLaws.{uncut_front}
-use Rattle.framing.specs.laws.FrameLaws.{frame_take, size_whole}
+use Rattle.framing.specs.laws.FrameLaws.{frame_take, size_record}
 use Rattle.framing.specs.laws.FramesLaws.{frames_cut, tail_cut, frames_next}
 use Rattle.framing.specs.Carry.{more, filled}
 use Rattle.mirror.specs.Panel.{sound_panel, fresh_panel}
@@ -51,8 +51,7 @@ module _ (p : Panel) (s : List ℕ) (l : Lasts p) where
 
   -- the bytes that it uses are the record's
   uses : cut_at s ≡ false → (record_of p s).used ≡ record_size s
-  unfolding whole_size
-  uses u = ap (λ (r : Recorded). r.used) by_frame ∙ answered_used (frame_of s) p ∙ size_whole s ∙ ap (λ b. pick b 0 (record_size s)) u
+  uses u = ap (λ (r : Recorded). r.used) by_frame ∙ answered_used (frame_of s) p ∙ size_record s u
 
   -- and the record alone is answered alike
   alone : cut_at s ≡ false → answered (frame_of (take (record_size s) s)) p ≡ record_of p s

@@ -51,9 +51,9 @@ pub topped_held : (s p : List ℕ) (to n : ℕ) → to ≤ room → length s ≤
 unfolding topped_of
 topped_held s p to n h l e =
     let t : take n p ≡ up_to to s p = ap (λ m. take m p) e ∙ take_min (to - length s) p in
-    let a : take room (s ++ take n p) ≡ s ++ up_to to s p = ap (λ m. take room (s ++ m)) t ∙ take_all room (s ++ up_to to s p) (omega (arith, length-append s (up_to to s p), length-take (to - length s) p)) in
     let k : n ≡ length (up_to to s p) = e ∙ sym (length-take (to - length s) p) in
-    ap (λ x. record { carry = carry_of x; taken = n }) a ∙ ap (λ m. record { carry = carry_of (s ++ up_to to s p); taken = m }) k
+    let a : take room (s ++ up_to to s p) ≡ s ++ up_to to s p = take_all room (s ++ up_to to s p) (omega (arith, length-append s (up_to to s p))) in
+    rw (t, a) (ap (λ m. record { carry = carry_of (s ++ up_to to s p); taken = m }) k)
 
 -- what is carried, what a part adds up to a count, and what is left of the part, are all
 take_rest : (n : ℕ) (p : List ℕ) → take n p ++ drop (length (take n p)) p ≡ p
@@ -111,12 +111,6 @@ front_reach {s} {n} t f =
 pub reach_most : (s : List ℕ) → reach s ≤ room
 reach_most s = rw (reach_told s) (told_most s)
 
--- the first k of a list, and what follows as many
-take_drop_length : (k : ℕ) (l : List ℕ) → take k l ++ drop (length (take k l)) l ≡ l
-take_drop_length zero l = refl
-take_drop_length (suc k) [] = refl
-take_drop_length (suc k) (x ∷ l) = ap (λ m. x ∷ m) (take_drop_length k l)
-
 -- a carry that is filled
 pub fill_carried : (c p : List ℕ) → carried_of (filled_of c p).carry ≡ filled c p
 unfolding topped_of
@@ -136,7 +130,7 @@ module _ (c p : List ℕ) where
 
   -- and what it took, with what is left, is the part
   pub more_left : more c p ++ left c p ≡ p
-  more_left = take_drop_length (reach (c ++ p) - length c) p
+  more_left = take_rest (reach (c ++ p) - length c) p
 
   -- where the record still wants more, the whole part was taken
   pub fill_wants : wants_more (filled c p) ≡ true → more c p ≡ p

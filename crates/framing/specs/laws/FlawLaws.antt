@@ -5,7 +5,7 @@ use borrow.Author.Tests.{ne_eqb, le-leb, lt-leb}
 use Rattle.laws.specs.Pick.{pick}
 use Rattle.framing.specs.Frame.{length_of, kind_of, time_of, control_of, cut_at, unknown_kind, wrong_length, late_time, stray_control, bad_at, whole_size}
 use Rattle.framing.specs.Flaw.{flaw_of}
-use Rattle.framing.specs.laws.FrontLaws.{none_cut}
+use Rattle.framing.specs.laws.FrontLaws.{none_cut, some_front}
 use Rattle.framing.specs.declared.flaw.Flaw.TheVariants.{Kind, Length, LateTime, StrayControl}
 
 module _ (s : List ℕ) where
@@ -48,6 +48,8 @@ module _ (s : List ℕ) where
   pub reset_no_flaw : cut_at s ≡ false → kind_of s ≡ 2 → length_of s ≡ 10 → time_of s < 2 ^ 48 → flaw_of s ≡ None
   unfolding flaw_of
   reset_no_flaw u k l t = rw (u, k, l, lt-leb (2 ^ 48) (time_of s) t)
+
+pub ruleset flaw_laws = (some_front, none_flaw, kind_flaw, transfer_length_flaw, reset_length_flaw, transfer_time_flaw, reset_time_flaw, control_flaw, transfer_no_flaw, reset_no_flaw)
 
 -- of a whole record: bad exactly where something is wrong
 pub flaw_bad : (s : List ℕ) → cut_at s ≡ false → is_some (flaw_of s) ≡ bad_at s

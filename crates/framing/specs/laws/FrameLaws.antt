@@ -9,7 +9,7 @@ use Rattle.framing.specs.declared.frame.Frame.{Frame}
 use Rattle.framing.specs.declared.frame.Frame.TheVariants.{Cut, Bad, Transfer, Reset}
 use Rattle.framing.specs.Frame.{length_of, kind_of, time_of, control_of, data_of, rs_of, rw_of, is_transfer, is_reset, unknown_kind, wrong_length, late_time, record_size, cut_at, bad_at, frame_of, size_of, whole_size}
 use Rattle.framing.specs.engine.Reading.{Whole}
-use Rattle.framing.specs.laws.FrontLaws.{Front, whole_front, uncut_front, none_cut, cut_size, whole_fits, byte_append, num16_append, num64_append, length_same, front_append, front_take}
+use Rattle.framing.specs.laws.FrontLaws.{Front, some_front, whole_front, uncut_front, none_cut, cut_size, whole_fits, byte_append, num16_append, num64_append, length_same, front_append, front_take}
 
 -- what is bad, rule by rule
 pub kind_bad : (s : List ℕ) → (kind_of s ≡ 1 → ⊥) → (kind_of s ≡ 2 → ⊥) → bad_at s ≡ true
@@ -80,6 +80,10 @@ pub reset_whole : {s : List ℕ} → Whole s 12 2 → time_of s < 2 ^ 48 → fra
 reset_whole {s} w t =
     reset_frame (whole_front w (omega arith) (omega arith)) w.told (reset_good s w.told (omega (arith, w.sized)) t)
 
+pub ruleset transfer_laws = (late_transfer, stray_whole, transfer_whole)
+
+pub ruleset reset_laws = (late_reset, reset_whole)
+
 -- how a record of n bytes is told: by its kind and size it is bad, or it has all the bytes of its kind
 data Told (s : List ℕ) (n : ℕ) : Type 0 where
   unknown : (kind_of s ≡ 1 → ⊥) → (kind_of s ≡ 2 → ⊥) → Told s n
@@ -106,6 +110,8 @@ other_frame {s} {n} f h k = bad_frame f (by (told s n)) where
   by (no_reset i j) = reset_length_bad s i (λ e. j (omega arith))
   by (transfer i j) = absurd (h i j)
   by (reset i j) = absurd (k i j)
+
+pub ruleset any_laws = (none_frame, some_front, other_frame)
 
 -- a frame, seen with what holds of the bytes that it was read off
 pub data Seen (s : List ℕ) : Frame → Type 0 where
@@ -174,6 +180,10 @@ size_whole s = by (frame_of s) (seen s) where
   by f (bad g b) = rw (g.uncut, g.size)
   by f (transfer g k b h) = rw g.uncut g.size
   by f (reset g k b h) = rw g.uncut g.size
+
+pub size_record : (s : List ℕ) → cut_at s ≡ false → size_of (frame_of s) ≡ record_size s
+unfolding whole_size
+size_record s u = size_whole s ∙ ap (λ b. unwrap_or (pick b None (Some (record_size s))) 0) u
 
 -- it lies within the bytes that are there
 pub size_within : (s : List ℕ) → size_of (frame_of s) ≤ length s

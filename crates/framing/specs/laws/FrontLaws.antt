@@ -68,6 +68,8 @@ pub told_size_lem : (s : List ℕ) → 2 ≤ length s → 2 ≤ length_of s → 
 unfolding told_size
 told_size_lem s h l m = rw (le-ltb (length s) 2 h, le-ltb (length_of s) 2 l, le-ltb 64 (length_of s) m)
 
+pub ruleset told_laws = (told_none, told_low, told_high, told_size_lem)
+
 -- a size, where that many bytes are there
 abbrev pub fits_in : ℕ → Option ℕ → Option ℕ
 fits_in l None = None
