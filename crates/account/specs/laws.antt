@@ -1,4 +1,3 @@
-pub mod AgainStateLaws
 pub mod RepeatsLaws
 pub mod AgainLaws
 pub mod AccountLaws
