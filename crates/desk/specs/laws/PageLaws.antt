@@ -12,9 +12,12 @@ abbrev filled : List ℕ → ℕ → Page
 filled bytes end = record { bytes = bytes; end = end }
 
 -- no bytes
-pub puts_none : (p : Page) → Puts [] p p
+pub none_put : (p : Page) → page_with_all [] p ≡ p
 unfolding page_with_all
-puts_none p = record { is = refl }
+none_put p = refl
+
+pub puts_none : (p : Page) → Puts [] p p
+puts_none p = record { is = sym (none_put p) }
 
 -- one byte, where room was made for it
 room_for_one : (end : ℕ) → place_with_room 1 end ≡ place_on end
@@ -31,13 +34,19 @@ unfolding page_with_all
 puts_byte byte p = record { is = ap (λ (n : ℕ). filled (slice_set p.bytes n byte) (n + 1)) (room_for_one p.end) }
 
 -- bytes after bytes
-more : (a b : List ℕ) (p : Page) → page_with_all (a ++ b) p ≡ page_with_all b (page_with_all a p)
+pub then_put : (a b : List ℕ) (p : Page) → page_with_all b (page_with_all a p) ≡ page_with_all (a ++ b) p
 unfolding page_with_all
-more [] b p = refl
-more (x ∷ a) b p = more a b (page_with x p)
+then_put [] b p = refl
+then_put (x ∷ a) b p = then_put a b (page_with x p)
 
 pub puts_then : {a b : List ℕ} {p q r : Page} → Puts a p q → Puts b q r → Puts (a ++ b) p r
-puts_then {a} {b} {p} P Q = record { is = Q.is ∙ ap (page_with_all b) P.is ∙ sym (more a b p) }
+puts_then {a} {b} {p} P Q = record { is = Q.is ∙ ap (page_with_all b) P.is ∙ then_put a b p }
+
+pub puts_from : {s : List ℕ} {p q : Page} → q ≡ page_with_all s p → Puts s p q
+puts_from e = record { is = e }
+
+-- a row of puts: `#[tactic(auto, using(desk::specs::laws::PageLaws::rows))]` on a function, an impl or a file proves that the bytes of all were put
+pub ruleset rows = (none_put, then_put, puts_from, append_assoc)
 
 -- the same bytes, put on the same page, leave one page
 pub puts_same : {s : List ℕ} {p q r : Page} → Puts s p q → Puts s p r → q ≡ r
