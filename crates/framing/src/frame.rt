@@ -28,13 +28,8 @@ impl Frame {
         match self {
             Frame::Cut => 0,
             Frame::Bad(size) => size,
-            Frame::Transfer {
-                time: _,
-                rs: _,
-                rw: _,
-                data: _,
-            } => 14,
-            Frame::Reset { time: _ } => 12,
+            Frame::Transfer { .. } => 14,
+            Frame::Reset { .. } => 12,
         }
     }
 }

@@ -8,10 +8,10 @@ use crate::flaw::Flaw;
 use crate::frame::Frame;
 
 // 2^48: times are below it.
-const TIME_END: u64 = 281474976710656;
+const TIME_END: u64 = 1 << 48;
 
 // Length 12 and kind 1, as the first four bytes of a transfer have them.
-const TRANSFER: u32 = 65548;
+const TRANSFER: u32 = 0x0001_000C;
 
 // The little-endian number of two bytes at a place.
 fn num16(log: &[u8], at: usize) -> u16
