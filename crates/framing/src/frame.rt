@@ -5,7 +5,7 @@ ghost use Rattle.framing.specs.Frame.{size_of};
 // What stands at the front of a slice.
 #[derive(Clone, Copy)]
 pub enum Frame {
-    // No whole record.
+    // No whole record: a case of the rules beside a bad one, with an answer of its own, so it is no None.
     Cut,
     // A record that can't be used, and its size with the length's own two bytes.
     Bad(usize),
@@ -21,7 +21,7 @@ pub enum Frame {
 }
 
 impl Frame {
-    // The bytes that it takes up: 0 for a cut.
+    // The bytes that it takes up: 0 for a cut, which the rules count as using none.
     pub fn size(self) -> usize
         ensures { result ≡ size_of self }
     {
