@@ -89,7 +89,7 @@ ended_of st = is_refused st || st.over
 
 -- the end: bytes that still wait are a cut
 abbrev pub cut_of : Stream → Bool
-cut_of st = pick st.over true (ltb 0 st.carry.len)
+cut_of st = pick st.over true (ltb 0 (length (carried_of st.carry)))
 
 -- a run refused with 10 has all counts 0 and is not cut
 abbrev pub end_as : Option Panel → Stream → Run

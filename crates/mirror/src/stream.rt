@@ -13,7 +13,7 @@ use crate::panel::Panel;
 use crate::reading::Reading;
 use crate::totals::Totals;
 use chip::sizes::{DISPLAY_SIZE, ONE_LINE, PATTERN_SIZE};
-use framing::carry::{Carry, Filled, carried};
+use framing::carry::{Carry, Filled};
 use framing::flaw::Flaw;
 use framing::frame::Frame;
 use framing::front::wants_more;
@@ -66,7 +66,7 @@ pub struct Next<S, T> {
 #[derive(Clone, Copy)]
 pub struct Front {
     pub frame: Frame,
-    pub flaw: Flaw,
+    pub flaw: Option<Flaw>,
 }
 
 impl<T: Copy> Reply<T> {
@@ -128,20 +128,17 @@ impl Stream {
     pub fn number(self) -> u64
         ensures { result ≡ number_in self }
     {
-        let totals = self.totals;
-        raise(totals.records)
+        raise(self.totals.records)
     }
 
     // The record that the bytes waiting and the part make whole.
     pub fn front(self, part: &[u8]) -> Front
         ensures { result ≡ front_of self part.now }
     {
-        let carry = self.carry;
-        let filled = carry.wanting().fill(part);
-        let head = filled.carry;
+        let filled = self.gathered(part);
         Front {
-            frame: head.frame(),
-            flaw: head.flaw(),
+            frame: filled.carry.frame(),
+            flaw: filled.carry.flaw(),
         }
     }
 
@@ -173,22 +170,15 @@ impl Stream {
         if self.over {
             return self;
         }
-        let totals = self.totals;
-        let carry = self.carry;
-        let filled = carry.wanting().fill(part);
-        let head = filled.carry;
-        let bytes = head.bytes;
-        let held = carried(bytes, head.len);
-        let first = totals.consume(&bytes[..held]);
-        let before = first.totals;
+        let filled = self.gathered(part);
+        let held = filled.carry.bytes();
+        let first = self.totals.consume(held);
         if first.at == 0 {
-            return self.rest(before, &bytes[..held]);
+            return self.rest(first.totals, held);
         }
-        let taken = filled.taken;
-        let second = before.consume(&part[taken..]);
-        let after = second.totals;
-        let at = taken + second.at;
-        self.rest(after, &part[at..])
+        let second = first.totals.consume(&part[filled.taken..]);
+        let at = filled.taken + second.at;
+        self.rest(second.totals, &part[at..])
     }
 
     // No record is answered: a cut was met, or more bytes are wanted.
@@ -217,21 +207,15 @@ impl Stream {
         if self.over {
             return self.stopped(0);
         }
-        let totals = self.totals;
-        let carry = self.carry;
-        let filled = carry.wanting().fill(part);
-        let taken = filled.taken;
-        let head = filled.carry;
-        let bytes = head.bytes;
-        let held = carried(bytes, head.len);
-        let panel = totals.panel;
-        let r = panel.turned(&bytes[..held]);
+        let filled = self.gathered(part);
+        let held = filled.carry.bytes();
+        let r = self.totals.panel.turned(held);
         if r.used == 0 {
-            return self.rest(totals, &bytes[..held]).stopped(taken);
+            return self.rest(self.totals, held).stopped(filled.taken);
         }
         Next {
-            after: self.rest(totals.count(r), &bytes[..0]),
-            taken,
+            after: self.rest(self.totals.count(r), &[]),
+            taken: filled.taken,
             reply: Reply::Answered(Verdict {
                 answer: r.answer,
                 byte: r.byte,
@@ -250,8 +234,7 @@ impl Stream {
     pub fn gathered(self, part: &[u8]) -> Filled
         ensures { result ≡ filled_of (waiting_bytes self) part.now }
     {
-        let carry = self.carry;
-        carry.wanting().fill(part)
+        self.carry.wanting().fill(part)
     }
 
     // What was read of it, record by record, with this tail unread. A panel that is not sound is refused, whoever put it
@@ -267,36 +250,30 @@ impl Stream {
         ensures { result ≡ read_of self (totals_read reading display pattern counts) tail.now }
     {
         let totals = reading.totals(display, pattern, counts);
-        let panel = totals.panel;
-        if panel.sound() {
+        if totals.panel.sound() {
             return self.rest(totals, tail);
         }
-        Stream::start(panel)
+        Stream::start(totals.panel)
     }
 
     // The end of the log.
     pub fn end(self) -> Run
         ensures { result ≡ end_of self }
     {
-        let totals = self.totals;
-        let records = totals.records;
         if let Some(given) = self.refused {
             return Run {
                 panel: given,
                 counts: [0; COUNTS],
-                records,
+                records: self.totals.records,
                 cut: false,
                 refused: true,
             };
         }
-        let panel = totals.panel;
-        let counts = totals.counts;
-        let carry = self.carry;
         Run {
-            panel,
-            counts,
-            records,
-            cut: self.over || 0 < carry.len,
+            panel: self.totals.panel,
+            counts: self.totals.counts,
+            records: self.totals.records,
+            cut: self.over || !self.carry.bytes().is_empty(),
             refused: false,
         }
     }

@@ -1,5 +1,5 @@
 -- Laws of the streaming form: feeding a, then b, is feeding a ++ b; feeding it all and ending is a run.
-use Rattle.std.specs.Prelude.{ℕ, ◌+◌, ◌-◌, ◌≤◌, ◌≡◌, Bool, not, ◌||◌, ◌&&◌, length, take, drop, replicate, ltb}
+use Rattle.std.specs.Prelude.{ℕ, ◌+◌, ◌-◌, ◌≤◌, ◌≡◌, Bool, not, ◌||◌, ◌&&◌, length, drop, replicate, ltb, Option}
 use Rattle.std.proofs.Math.Path.{refl, sym, ap}
 use Rattle.std.proofs.Common.{◌∙◌, arith, add-zero, length-append, length-drop, length-take, drop-drop, ltb-true, ltb-false, lt-ltb, le-ltb}
 use Rattle.std.proofs.Math.Bool.{true, false}
@@ -12,13 +12,11 @@ use Rattle.framing.specs.Frames.{Pieces, frames, tail, joined}
 use Rattle.framing.specs.laws.FrontLaws.{uncut_front}
 use Rattle.framing.specs.laws.FrameLaws.{cut_frame, frame_cut}
 use Rattle.framing.specs.laws.FramesLaws.{frames_cut, tail_cut, tail_next, joined_frames, tail_is_cut, pieces_append, pieces_broken, record_first}
-use Rattle.framing.specs.Carry.{carried_of, carry_of, wanting_of, reach, topped_of, more, filled, filled_of, room}
+use Rattle.framing.specs.Carry.{carried_of, carry_of, wanting_of, reach, topped_of, more, filled, filled_of}
 use Rattle.framing.specs.laws.CarryLaws.{left, carried, fill_carried, wanting_wants, fill_wants, fill_broken, fill_frame, fill_front, fill_whole}
-use Rattle.laws.specs.Held.{Held}
 use Rattle.framing.specs.Flaw.{flaw_of}
 use Rattle.framing.specs.declared.flaw.Flaw.{Flaw}
 use Rattle.framing.specs.declared.frame.Frame.{Frame}
-use Rattle.framing.specs.declared.carry.Carry.{Carry}
 use Rattle.framing.specs.declared.carry.Filled.{Filled}
 use Rattle.mirror.specs.Answer.{count_places}
 use Rattle.mirror.specs.Panel.{sound_panel}
@@ -213,11 +211,10 @@ onward_records (f ∷ fs) t n e =
 
 -- what is left over after all is what was not read
 cut_tail : (st : Stream) (t : Totals) (rest : List ℕ) → cut_of (rested_of st t rest) ≡ ltb 0 (length rest)
-unfolding carry_of
 cut_tail st t rest = by (wants_more rest) refl
   where
-    by : (w : Bool) → wants_more rest ≡ w → pick (not w) true (ltb 0 (carry_of (pick w rest [])).len) ≡ ltb 0 (length rest)
-    by true w = refl
+    by : (w : Bool) → wants_more rest ≡ w → pick (not w) true (ltb 0 (length (carried_of (carry_of (pick w rest []))))) ≡ ltb 0 (length rest)
+    by true w = ap (λ s. ltb 0 (length s)) (carried rest)
     by false w = sym (some rest w)
       where
         some : (l : List ℕ) → wants_more l ≡ false → ltb 0 (length l) ≡ true
@@ -253,24 +250,21 @@ pub record Fed (st : Stream) (part v : List ℕ) (taken : ℕ) : Type 0 where
   pub takes : taken ≡ length (more (waiting_bytes st) part)
   pub within : taken ≤ length part
 
-pub has_fed : (st : Stream) (part : List ℕ) (w : Carry) (f : Filled) (h : ℕ) → w ≡ carry_of (waiting_bytes st) → f ≡ filled_of (carried_of w) part →
-    Held room f.carry.bytes f.carry.len h → Fed st part (take h f.carry.bytes) f.taken
+pub has_fed : (st : Stream) (part : List ℕ) (f : Filled) (held : List ℕ) → f ≡ filled_of (waiting_bytes st) part → held ≡ carried_of f.carry →
+    Fed st part held f.taken
 unfolding topped_of
-has_fed st part w f h e g k =
-    let q = g ∙ ap (λ x. filled_of (carried_of x) part) e ∙ ap (λ x. filled_of x part) (carried (waiting_bytes st)) in
+has_fed st part f held q k =
     let t = ap (λ (x : Filled). x.taken) q in
     record {
-      carries = k.is ∙ ap (λ (x : Filled). carried_of x.carry) q ∙ fill_carried (waiting_bytes st) part;
+      carries = k ∙ ap (λ (x : Filled). carried_of x.carry) q ∙ fill_carried (waiting_bytes st) part;
       takes = t;
       within = omega (arith, t, length-take (reach (waiting_bytes st ++ part) - length (waiting_bytes st)) part);
     }
 
 -- what `front` reads off the carry once it is filled
-pub front_read : (st : Stream) (part : List ℕ) (w : Carry) (f : Filled) (frame : Frame) (flaw : Flaw) →
-    w ≡ carry_of (waiting_bytes st) → f ≡ filled_of (carried_of w) part → frame ≡ frame_of (carried_of f.carry) → flaw ≡ flaw_of (carried_of f.carry) →
-    record { frame = frame; flaw = flaw } ≡ front_of st part
-front_read st part w f frame flaw e g h k =
-    let q = g ∙ ap (λ x. filled_of (carried_of x) part) e ∙ ap (λ x. filled_of x part) (carried (waiting_bytes st)) in
+pub front_read : (st : Stream) (part : List ℕ) (f : Filled) (frame : Frame) (flaw : Option Flaw) → f ≡ filled_of (waiting_bytes st) part →
+    frame ≡ frame_of (carried_of f.carry) → flaw ≡ flaw_of (carried_of f.carry) → record { frame = frame; flaw = flaw } ≡ front_of st part
+front_read st part f frame flaw q h k =
     let v = ap (λ (x : Filled). carried_of x.carry) q ∙ fill_carried (waiting_bytes st) part in
     rw (h ∙ ap frame_of v, k ∙ ap flaw_of v)
 

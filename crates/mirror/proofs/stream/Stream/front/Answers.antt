@@ -3,4 +3,4 @@ use Rattle.mirror.proofs.stream.Stream.front.Goals as goal
 
 pub returns : goal.returns
 returns c =
-    front_read c.args.self c.args.part.now _ _ _ _ c.wanting.ensures c.fill-filled.ensures c.frame.ensures c.flaw.ensures
+    front_read c.args.self c.args.part.now _ _ _ c.gathered-filled.ensures c.frame.ensures c.flaw.ensures

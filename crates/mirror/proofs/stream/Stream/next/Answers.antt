@@ -12,7 +12,7 @@ returns-then-self c = replies _ _ _ (rw c.stopped.ensures (stopped_over _ _ (non
 pub returns-then-r-eq0 : goal.returns-then-r-eq0
 returns-then-r-eq0 c =
     let a = c.args in
-    let f = has_fed a.self a.part.now c.wanting.result c.fill-filled.result c.carried-held.result c.wanting.ensures c.fill-filled.ensures c.carried-held.ensures in
+    let f = has_fed a.self a.part.now _ _ c.gathered-filled.ensures c.bytes-held.ensures in
     replies _ _ _
     (rw c.stopped-then-r-eq0.ensures
     (next_stops f (record { heard = none_refused _ (sym c.is_some.ensures ∙ c.if-is_some.false); unended = c.if-self.false }) _ c.turned-r.ensures c.if-r-eq0.true _ c.rest.ensures _ refl))
@@ -20,7 +20,7 @@ returns-then-r-eq0 c =
 pub returns : goal.returns
 returns c =
     let a = c.args in
-    let f = has_fed a.self a.part.now c.wanting.result c.fill-filled.result c.carried-held.result c.wanting.ensures c.fill-filled.ensures c.carried-held.ensures in
+    let f = has_fed a.self a.part.now _ _ c.gathered-filled.ensures c.bytes-held.ensures in
     replies _ _ _
     (rw (c.rest-2.ensures, c.count.ensures)
     (next_goes f (record { heard = none_refused _ (sym c.is_some.ensures ∙ c.if-is_some.false); unended = c.if-self.false }) _ c.turned-r.ensures c.if-r-eq0.false))
