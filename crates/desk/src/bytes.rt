@@ -45,6 +45,6 @@ pub fn load(rt: &HostRuntime, place: usize) -> Result<Buffer<ROOM>, Stopped>
 {
     let path = argument(rt, place);
     open(rt, path.as_slice())
-        .and_then(|file| read(file))
+        .and_then(read)
         .map_err(|error| fail(rt, path.as_slice(), error))
 }

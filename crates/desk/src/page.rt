@@ -38,7 +38,7 @@ impl Page {
     pub(crate) fn has_room(&self, size: usize) -> bool
         ensures { result ≡ nat_le (self.now.end + size) page_size }
     {
-        self.end <= PAGE && size <= PAGE - self.end
+        self.end.saturating_add(size) <= PAGE
     }
 
     // Makes room for so many bytes: where there is none, what is on the page is written out, and the next byte goes to the
@@ -70,10 +70,9 @@ impl Page {
     }
 
     // Puts bytes that there is room for.
-    pub(crate) fn paste(&mut self, bytes: &[u8])
+    fn paste(&mut self, bytes: &[u8])
         requires { self.old.end + length bytes.now ≤ page_size }
-        ensures on { Puts bytes.now self.old self.new }
-        ensures next { self.new.end ≡ self.old.end + length bytes.now }
+        ensures { Puts bytes.now self.old self.new }
     {
         let end = self.end + bytes.len();
         self.bytes[self.end..end].copy_from_slice(bytes);
@@ -91,21 +90,13 @@ impl Page {
         }
     }
 
-    // Puts bytes where there is room for so many; else nothing. There is no write in it: what is put is told before the room
+    // Puts bytes where there is room for all of them; else nothing. There is no write in it: what is put is told before the room
     // is made for it, by `make_room`.
-    pub(crate) fn put_within(&mut self, most: usize, bytes: &[u8])
-        requires { length bytes.now ≤ most }
-        ensures { PutsHere most (λ s. s ≡ bytes.now) self.old self.new }
-    {
-        if self.has_room(most) {
-            self.paste(bytes);
-        }
-    }
-
-    // Puts bytes where there is room for all of them; else nothing.
     pub fn put_here(&mut self, bytes: &[u8])
         ensures { PutsHere (length bytes.now) (λ s. s ≡ bytes.now) self.old self.new }
     {
-        self.put_within(bytes.len(), bytes);
+        if self.has_room(bytes.len()) {
+            self.paste(bytes);
+        }
     }
 }

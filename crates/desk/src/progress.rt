@@ -54,8 +54,9 @@ fn beside_is_terminal(rt: &HostRuntime) -> bool {
 
 // The number of the first line of what Linux tells of a descriptor: `pos:`, a tab and the place in decimal.
 fn place_in(told: &[u8]) -> Option<u64> {
-    let line = told.get(5..)?.split(|byte| *byte == b'\n').next()?;
-    number_of(line, u64::MAX)
+    let lines = told.strip_prefix(b"pos:\t")?;
+    let place = lines.split(|byte| *byte == b'\n').next()?;
+    number_of(place, u64::MAX)
 }
 
 // Where standard input stands, if that is told.

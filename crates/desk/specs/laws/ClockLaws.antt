@@ -1,8 +1,10 @@
 -- A number and a clock are each written in one way.
-use Rattle.std.specs.Prelude.{◌≡◌, ℕ, suc, ◌-◌, ◌/◌, ◌^◌, ◌<◌, ◌≤◌, List, ◌++◌, refl}
-use Rattle.std.proofs.Common.{sym, ap, subst, ◌∙◌, le_of_suc-le-suc, lt_of_not-le, arith}
-use Rattle.std.proofs.Math.Nat.{pow-le-pow_right}
-use Rattle.io.specs.Digits.{last_digits, IsDigitCount}
+use Rattle.std.specs.Prelude.{◌≡◌, ℕ, zero, suc, ◌+◌, ◌-◌, ◌*◌, ◌/◌, ◌%◌, ◌^◌, ◌<◌, ◌≤◌, List, [], ◌∷◌, ◌++◌, refl}
+use Rattle.std.specs.Fmt.{decimal}
+use Rattle.std.proofs.lemmas.Fmt.{decimal_by_steps}
+use Rattle.std.proofs.Common.{sym, ap, subst, ◌∙◌, le_of_suc-le-suc, lt_of_not-le, lt-ltb, arith}
+use Rattle.std.proofs.Math.Nat.{pow-le-pow_right, pow-succ'}
+use Rattle.io.specs.Digits.{last_digits, hex_digit_ascii, IsDigitCount}
 use Rattle.desk.specs.Page.{Puts, PutsSome, PutsHere}
 use Rattle.desk.specs.Clock.{Decimal, Hours, Clock, within_hour}
 use Rattle.desk.specs.Clock.Hours.{two, more}
@@ -39,6 +41,41 @@ hours_one n a b (more g d) (more h e) = decimal_one n a b d e
 
 pub clock_one : (time : ℕ) (a b : List ℕ) → Clock time a → Clock time b → a ≡ b
 clock_one time a b A B = A.written ∙ ap (λ (hours : List ℕ). hours ++ within_hour time) (hours_one _ _ _ A.told B.told) ∙ sym B.written
+
+-- what the library writes is a number in decimal: one digit, or those of a tenth of it and one more
+glyph : (n : ℕ) → hex_digit_ascii (n % 10) ≡ 48 + n % 10
+glyph n = rw (lt-ltb (n % 10) 10 (omega arith))
+
+one_digit : (n : ℕ) → n < 10 → Decimal n ((48 + n) ∷ [])
+one_digit n h =
+    let same : n % 10 ≡ n = omega arith in
+    record {
+      many = 1;
+      fewest = (omega arith, omega arith, λ l. absurd (omega arith));
+      written = ap (λ (d : ℕ). d ∷ []) (sym (glyph n ∙ ap (λ (d : ℕ). 48 + d) same));
+    }
+
+needed : (n k : ℕ) → 10 ≤ n → IsDigitCount 10 1 (n / 10) k → 10 ^ k ≤ n
+needed n zero h D = absurd (omega (arith, D.0))
+needed n (suc zero) h D = h
+needed n (suc (suc j)) h D =
+    let least : 10 ^ (suc (suc j) - 1) ≤ n / 10 = D.2 (omega arith) in
+    let same : 10 ^ (suc (suc j) - 1) ≡ 10 ^ suc j = ap (λ (i : ℕ). 10 ^ i) (omega arith) in
+    omega (arith, least, same, pow-succ' 10 (suc j))
+
+one_more : (n : ℕ) (s : List ℕ) → 10 ≤ n → Decimal (n / 10) s → Decimal n (s ++ ((48 + n % 10) ∷ []))
+one_more n s h D =
+    let k = D.many in
+    let most : n / 10 < 10 ^ k = D.fewest.1 in
+    let next : 10 ^ suc k ≡ 10 * 10 ^ k = pow-succ' 10 k in
+    record {
+      many = suc k;
+      fewest = (omega arith, omega (arith, next), λ l. let same : 10 ^ (suc k - 1) ≡ 10 ^ k = ap (λ (i : ℕ). 10 ^ i) (omega arith) in omega (arith, same, needed n k h D.fewest));
+      written = ap (λ (t : List ℕ). t ++ ((48 + n % 10) ∷ [])) D.written ∙ ap (λ (d : ℕ). last_digits 10 k (n / 10) ++ (d ∷ [])) (sym (glyph n));
+    }
+
+pub decimal_is : (n : ℕ) → n < 2 ^ 64 → Decimal n (decimal n)
+decimal_is = decimal_by_steps Decimal one_digit one_more
 
 -- the hours, and then the rest
 pub clock_puts : {time : ℕ} {p q r : Page} → PutsSome (Hours (time / 3600000000)) p q → Puts (within_hour time) q r → PutsSome (Clock time) p r
