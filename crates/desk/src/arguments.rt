@@ -85,7 +85,7 @@ impl Given {
     }
 }
 
-// All groups. The program's own name stands at place 0.
+// All groups. The program's own name stands at place 0, and a group takes as many places as it has words.
 fn read_groups(rt: &HostRuntime, takes: &[u8], count: usize) -> Option<Given> {
     let mut given = Given {
         places: [None; GROUPS],

@@ -6,7 +6,8 @@ use crate::print::show;
 
 pub const PAGE: usize = 4096;
 
-// What is to be written are the first `end` bytes, or all where that says more.
+// What is to be written are the first `end` bytes, or all where that says more. It is no buffer, since what is full there stays
+// full, and a full page goes on at its front.
 #[derive(Clone, Copy)]
 pub struct Page {
     pub bytes: [u8; PAGE],
