@@ -16,7 +16,7 @@ pub fn digit(n: u8) -> u8
     }
 }
 
-// Two upper-case hexadecimal digits: bytes for a page that is filled in place, where a format would ask for a String.
+// Two upper-case hexadecimal digits, as bytes: the kit's hex has upper case as a String alone, and nothing here uses the heap.
 pub fn hex(byte: u8) -> [u8; 2]
     ensures { result ≡ hex_of byte }
 {
