@@ -14,9 +14,6 @@ pub(crate) fn ones(frame: &[u8]) -> usize
     requires { length frame.now ≤ most_frame_size }
     ensures { result ≡ ones_of frame.now }
 {
-    let mut lit: u16 = 0;
-    for i in 0..frame.len() {
-        lit += byte_ones(frame[i]);
-    }
+    let lit: u16 = frame.iter().map(|byte| byte_ones(*byte)).sum();
     lit as usize
 }

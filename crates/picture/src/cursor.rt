@@ -38,15 +38,11 @@ pub(crate) fn place(registers: Registers) -> Spot
     }
 }
 
-// Whether the cursor's place, shown or not, is this position of this line.
-pub(crate) fn here(registers: Registers, on: usize, at: usize) -> bool
-    ensures { result ≡ cursor_here registers on at }
+// Whether the cursor's place, shown or not, is this one.
+pub(crate) fn here(registers: Registers, at: Spot) -> bool
+    ensures { result ≡ cursor_here registers at.line at.position }
 {
-    let asked = Spot {
-        line: on,
-        position: at,
-    };
-    asked == place(registers)
+    at == place(registers)
 }
 
 // The cursor that the registers show, as a row of dots or as a blink.

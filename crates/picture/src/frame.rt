@@ -1,14 +1,12 @@
 // The frame of a chip: 8 rows of 80 dots for each of its lines, and where each dot lands.
-ghost use Rattle.std.specs.Prelude.{◌≡◌, ◌<◌, length, replicate};
+ghost use Rattle.std.specs.Prelude.{◌≡◌, ◌≢◌, ◌<◌, length, MatchResult};
 ghost use Rattle.dots.specs.Landing.{dot};
-ghost use Rattle.dots.specs.engine.Cells.{put};
 ghost use Rattle.picture.specs.Frame.{FrameSize, Rows, glass, lit_at};
 ghost use Rattle.picture.specs.engine.Shown.{Lands};
-ghost use Rattle.picture.specs.engine.Wiring.{wired};
 
-use crate::mode::{Wiring, column_on, row_on};
 use crate::pattern::{TALL, WIDE};
 use chip::sizes::{MOST_LINES, POSITIONS, lines};
+use mirror::answer::Refusal;
 
 pub const COLUMNS: usize = POSITIONS * WIDE;
 
@@ -48,14 +46,33 @@ pub(crate) fn landing(chip: u8, row: usize, column: usize) -> Place
     }
 }
 
-// One dot of a frame, 0 or 1.
-pub(crate) fn dot_at(chip: u8, frame: &[u8], row: usize, column: usize) -> u8
-    requires { (length frame.now ≡ (glass chip).size) × (row < (glass chip).rows) × (column < (glass chip).cols) }
-    ensures { result ≡ dot (glass chip) frame.now row column }
-{
-    let p = landing(chip, row, column);
-    let i = p.byte;
-    (frame[i] >> p.bit) & 1
+// A frame of the size that the chip's has, read as it lies.
+#[derive(Clone, Copy)]
+pub(crate) struct Glass<'a> {
+    chip: u8,
+    frame: &'a [u8],
+    ghost sized: { length frame.now ≡ (glass chip).size },
+}
+
+impl<'a> Glass<'a> {
+    // The frame as the chip's, where its size is.
+    pub(crate) fn of(chip: u8, frame: &'a [u8]) -> Result<Glass<'a>, Refusal>
+        ensures { MatchResult result (λ g. (g.chip ≡ chip) × (g.frame.now ≡ frame.now)) (λ refusal. (length frame.now ≢ (glass chip).size) × (refusal ≡ Refusal.Size)) }
+    {
+        if frame.len() != frame_size(chip) {
+            return Err(Refusal::Size);
+        }
+        Ok(Glass { chip, frame })
+    }
+
+    // One dot, 0 or 1.
+    pub(crate) fn dot(&self, row: usize, column: usize) -> u8
+        requires { (row < (glass self.now.chip).rows) × (column < (glass self.now.chip).cols) }
+        ensures { result ≡ dot (glass self.now.chip) self.now.frame.now row column }
+    {
+        let p = landing(self.chip, row, column);
+        (self.frame[p.byte] >> p.bit) & 1
+    }
 }
 
 // Whether a dot of a chip's frame is lit: none is outside, nor in a frame of another size. Whoever shows a frame reads it
@@ -63,35 +80,8 @@ pub(crate) fn dot_at(chip: u8, frame: &[u8], row: usize, column: usize) -> u8
 pub fn lit_at(chip: u8, frame: &[u8], row: usize, column: usize) -> bool
     ensures { result ≡ lit_at chip frame.now row column }
 {
-    if frame.len() != frame_size(chip) {
+    let Ok(glass) = Glass::of(chip, frame) else {
         return false;
-    }
-    if rows(chip) <= row {
-        return false;
-    }
-    if COLUMNS <= column {
-        return false;
-    }
-    dot_at(chip, frame, row, column) == 1
-}
-
-// Lights one dot of the picture where v is 1, in the place that it takes on the glass.
-pub(crate) fn put_dot(wiring: Wiring, frame: &mut [u8], row: usize, column: usize, v: u8)
-    requires { (length frame.old ≡ (wired wiring).size) × (row < (wired wiring).rows) × (column < (wired wiring).cols) × (v < 2) }
-    ensures { frame.new ≡ put (wired wiring) frame.old row column v }
-{
-    let p = landing(wiring.chip, row_on(wiring, row), column_on(wiring, column));
-    let i = p.byte;
-    frame[i] = frame[i] | (v << p.bit);
-}
-
-// Every bit 0.
-pub(crate) fn clear(chip: u8, frame: &mut [u8])
-    requires { length frame.old ≡ (glass chip).size }
-    ensures { frame.new ≡ replicate (glass chip).size 0 }
-{
-    let size = frame_size(chip);
-    for i in 0..size {
-        frame[i] = 0;
-    }
+    };
+    row < rows(chip) && column < COLUMNS && glass.dot(row, column) == 1
 }
