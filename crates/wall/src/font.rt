@@ -1,6 +1,7 @@
 // The font that the program has of its own, drawn in fonts/harbour.txt: codes 10h to FFh, eight rows each from the top, five
 // dots in the low bits.
-use desk::bytes::Bytes;
+use buffer::buffer::Buffer;
+use desk::bytes::ROOM;
 use picture::pattern::FONT_SIZE;
 
 const FONT: [u8; FONT_SIZE] = [
@@ -72,14 +73,6 @@ const FONT: [u8; FONT_SIZE] = [
 ];
 
 // The font as bytes of a file.
-pub(crate) fn built_in() -> Bytes {
-    let mut bytes = io::buffer();
-    for i in 0..FONT_SIZE {
-        bytes[i] = FONT[i];
-    }
-    Bytes {
-        ok: true,
-        bytes,
-        len: FONT_SIZE,
-    }
+pub(crate) fn built_in() -> Buffer<ROOM> {
+    Buffer::keep(&FONT)
 }

@@ -1,12 +1,7 @@
-use Rattle.std.proofs.Common.{refl, arith}
-use Rattle.dots.specs.laws.TableLaws.{fill_start, fill_step, fill_end}
+use Rattle.std.proofs.Common.{rules, arith}
+use Rattle.dots.specs.laws.TableLaws.{fill_end}
+use Rattle.chip.specs.Sizes.{positions}
 use Rattle.wall.proofs.codes.characters.Goals as goal
 
-pub loop-at-init : goal.loop-at-init
-loop-at-init c = fill_start _ _ _ refl
-
-pub loop-at-preserved : goal.loop-at-preserved
-loop-at-preserved c = fill_step _ _ _ _ _ c.loop-at.invariant (omega arith) c.character.ensures
-
 pub returns : goal.returns
-returns c = fill_end _ _ _ _ c.loop-at.invariant (omega arith)
+returns c = fill_end _ positions _ positions (record { within = omega arith; long = c.map.ensures.items.long; at = (λ k p. let h = c.map.ensures.items.at k 0 0 p in search rules) }) (omega arith)

@@ -1,6 +1,6 @@
 use Rattle.std.proofs.Common.{refl, arith}
 use Rattle.dots.specs.laws.TableLaws.{fill_start, fill_step, fill_end}
-use Rattle.wall.proofs.bitmap.row_bytes.Goals as goal
+use Rattle.wall.proofs.apart.Dots.row_bytes.Goals as goal
 
 pub loop-i-init : goal.loop-i-init
 loop-i-init c = fill_start _ _ _ refl
