@@ -24,6 +24,7 @@ fn open(rt: &HostRuntime, path: &[u8]) -> io::Result<File> {
 
 // Reads until there is no room, the file ends or a read fails, in fixed memory, as the library's `read_to_end` does not. A
 // read that goes on brings a byte, so there are no more turns than bytes.
+#[tactic(auto, unfolding(buffer::specs::Buffer::buffer_of))]
 fn read(mut file: File) -> io::Result<Buffer<ROOM>>
     ensures { IfOk result (λ b. b.len ≤ 4096) }
 {

@@ -47,6 +47,7 @@ fn within_hour(time: u64) -> [u8; WITHIN]
 
 impl Page {
     // A number in decimal.
+    #[tactic(auto, using(crate::specs::laws::ClockLaws::puts_decimal))]
     pub fn put_number(&mut self, n: u64)
         ensures { PutsSome (Decimal n) self.old self.new }
     {
@@ -65,6 +66,7 @@ impl Page {
     }
 
     // A time as hours, minutes, seconds and millionths.
+    #[tactic(auto, using(crate::specs::laws::ClockLaws::clock_puts))]
     pub fn put_clock(&mut self, time: u64)
         ensures { PutsSome (Clock time) self.old self.new }
     {

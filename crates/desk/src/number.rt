@@ -18,6 +18,7 @@ fn then(value: u64, digit: u8, most: u64) -> Option<u64>
 }
 
 // The number that a word writes: decimal digits alone, at least one, and at most `most`.
+#[tactic(auto, using(crate::specs::laws::NumberLaws::read))]
 pub fn number_of(word: &[u8], most: u64) -> Option<u64>
     ensures { result ≡ decimal_of word.now most }
 {
@@ -32,6 +33,7 @@ pub fn number_of(word: &[u8], most: u64) -> Option<u64>
 }
 
 // The number that the argument at a place writes.
+#[tactic(auto, using(crate::specs::laws::NumberLaws::bounded))]
 pub fn number_at(rt: &HostRuntime, place: usize, most: u64) -> Option<u64>
     ensures { IfSome result (λ n. n ≤ most) }
 {

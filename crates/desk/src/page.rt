@@ -53,6 +53,7 @@ impl Page {
         }
     }
 
+    #[tactic(auto, using(crate::specs::laws::PageLaws::puts_byte))]
     fn put_byte(&mut self, byte: u8)
         ensures { Puts (byte ∷ []) self.old self.new }
     {
@@ -62,6 +63,7 @@ impl Page {
     }
 
     // Puts bytes one after another, each where there is room.
+    #[tactic(auto, using(crate::specs::laws::PageLaws::rows, crate::specs::laws::PageLaws::parts))]
     fn put_each(&mut self, bytes: &[u8])
         ensures { Puts bytes.now self.old self.new }
     {
@@ -71,6 +73,7 @@ impl Page {
     }
 
     // Puts bytes that there is room for.
+    #[tactic(auto, using(crate::specs::laws::PageLaws::puts_pasted))]
     fn paste(&mut self, bytes: &[u8])
         requires { self.old.end + length bytes.now ≤ page_size }
         ensures { Puts bytes.now self.old self.new }

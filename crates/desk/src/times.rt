@@ -24,6 +24,7 @@ const USUAL: Timed = Timed {
 // The longest of sixteen bits.
 const LONGEST: u64 = 65535;
 
+#[tactic(auto, using(crate::specs::laws::NumberLaws::not_above))]
 fn time_of(word: &[u8]) -> Option<u16>
     ensures { result ≡ decimal_of word.now longest }
 {

@@ -1,5 +1,5 @@
 -- A number and a clock are each written in one way.
-use Rattle.std.specs.Prelude.{◌≡◌, ℕ, zero, suc, ◌+◌, ◌-◌, ◌*◌, ◌/◌, ◌%◌, ◌^◌, ◌<◌, ◌≤◌, List, [], ◌∷◌, ◌++◌, refl}
+use Rattle.std.specs.Prelude.{◌≡◌, ℕ, zero, suc, ◌+◌, ◌-◌, ◌*◌, ◌/◌, ◌%◌, ◌^◌, ◌<◌, ◌≤◌, List, [], ◌∷◌, ◌++◌}
 use Rattle.std.specs.Fmt.{decimal}
 use Rattle.std.proofs.lemmas.Fmt.{decimal_by_steps}
 use Rattle.std.proofs.Common.{sym, ap, subst, ◌∙◌, le_of_suc-le-suc, lt_of_not-le, lt-ltb, arith}
@@ -77,9 +77,12 @@ one_more n s h D =
 pub decimal_is : (n : ℕ) → n < 2 ^ 64 → Decimal n (decimal n)
 decimal_is = decimal_by_steps Decimal one_digit one_more
 
+pub puts_decimal : {n : ℕ} {s : List ℕ} {p q : Page} → s ≡ decimal n → n < 2 ^ 64 → Puts s p q → PutsSome (Decimal n) p q
+puts_decimal {n} {s} e h P = record { bytes = s; kind = rw e (decimal_is n h); puts = P }
+
 -- the hours, and then the rest
-pub clock_puts : {time : ℕ} {p q r : Page} → PutsSome (Hours (time / 3600000000)) p q → Puts (within_hour time) q r → PutsSome (Clock time) p r
-clock_puts {time} H W = record { bytes = H.bytes ++ within_hour time; kind = record { hours = H.bytes; told = H.kind; written = refl }; puts = puts_then H.puts W }
+pub clock_puts : {time : ℕ} {s : List ℕ} {p q r : Page} → PutsSome (Hours (time / 3600000000)) p q → s ≡ within_hour time → Puts s q r → PutsSome (Clock time) p r
+clock_puts {time} {s} H e W = record { bytes = H.bytes ++ s; kind = record { hours = H.bytes; told = H.kind; written = rw e }; puts = puts_then H.puts W }
 
 -- so what is put on a page leaves one page
 module _ (Kind : List ℕ → Type 0) (one : (a b : List ℕ) → Kind a → Kind b → a ≡ b) {p q r : Page} where

@@ -61,6 +61,9 @@ unfolding decimal_of
 bounded [] most = tt
 bounded (b ∷ s) most = tested (all_digits (b ∷ s)) (value_after 0 (b ∷ s)) most
 
+pub not_above : (s : List ℕ) (most n : ℕ) → decimal_of s most ≡ Some n → n ≤ most
+not_above s most n e = rw e at (bounded s most)
+
 -- the digits before a place came to a number, and the rest decides
 pub record Reached (word : List ℕ) (most v i : ℕ) : Type 0 where
   pub small : v ≤ most
@@ -94,3 +97,5 @@ module _ (word : List ℕ) (most v i : ℕ) (at : Reached word most v i) where
   ended h =
       sym (ap (λ t. pick t None (Some v)) (le-ltb most v at.small)) ∙
       ap (λ s. number_after v s most) (sym (drop_of_length-le word h)) ∙ at.is
+
+pub ruleset read = (wordless, begun, onward, stopped, ended)

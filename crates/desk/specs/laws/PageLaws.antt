@@ -1,5 +1,5 @@
 -- Bytes that are put on a page one after another.
-use Rattle.std.specs.Prelude.{◌≡◌, ℕ, suc, ◌+◌, ◌<◌, ◌≤◌, List, [], ◌∷◌, ◌++◌, length, drop, take, nat_le, Bool, true, false, slice_index, slice_set, refl}
+use Rattle.std.specs.Prelude.{◌≡◌, ℕ, suc, ◌+◌, ◌<◌, ◌≤◌, List, [], ◌∷◌, ◌++◌, length, drop, take, nat_le, Bool, true, false, slice_set, refl}
 use Rattle.std.proofs.Common.{◌-◌, ◌∙◌, sym, ap, subst, arith, leb-true, leb-false, set, take_all, append_assoc, add-zero, drop-drop, length-set}
 use Rattle.std.proofs.lemmas.Bool.{lt-leb}
 use Rattle.std.proofs.lemmas.List.{take-append-drop, take_more, take_more_set, drop-set-lt}
@@ -52,12 +52,8 @@ pub ruleset rows = (none_put, then_put, puts_from, append_assoc)
 pub puts_same : {s : List ℕ} {p q r : Page} → Puts s p q → Puts s p r → q ≡ r
 puts_same P Q = P.is ∙ sym Q.is
 
--- so much more of them
-pub puts_more : (bytes : List ℕ) (i : ℕ) {p q r : Page} → Puts (take i bytes) p q → Puts (slice_index bytes i ∷ []) q r → i < length bytes → Puts (take (i + 1) bytes) p r
-puts_more bytes i {p} {q} {r} P Q h = subst (λ (s : List ℕ). Puts s p r) (sym (take_more bytes i 0 h)) (puts_then P Q)
-
-pub puts_all : (bytes : List ℕ) (i : ℕ) {p q : Page} → Puts (take i bytes) p q → length bytes ≤ i → Puts bytes p q
-puts_all bytes i {p} {q} P h = subst (λ (s : List ℕ). Puts s p q) (take_all i bytes h) P
+-- a loop over bytes: one more of them, and all
+pub ruleset parts = (take_more, take_all)
 
 -- one byte where there is room for it, and the others after it
 over_more : (xs s : List ℕ) (at b : ℕ) → at < length xs → put_mid (at + 1) (length s) (set xs at b) s ≡ put_mid at (suc (length s)) xs (b ∷ s)
