@@ -1,11 +1,10 @@
 -- A panel of an unknown chip, and one whose bits disagree with its memory, are not sound, and so refused by every call.
-use Rattle.std.specs.Prelude.{ℕ, ◌≡◌, refl, Bool, true, false, not, List}
-use Rattle.std.proofs.Common.{sym, ◌∙◌}
+use Rattle.std.specs.Prelude.{ℕ, ◌≡◌, refl, Bool, true, false, List}
+use Rattle.std.proofs.Common.{sym}
 use Rattle.std.proofs.Math.Path.{ap}
-use Rattle.laws.specs.Pick.{pick}
 use Rattle.chip.specs.Sizes.{is_known}
 use Rattle.mirror.specs.Answer.{paper}
-use Rattle.mirror.specs.Panel.{sound_panel, half_fits}
+use Rattle.mirror.specs.Panel.{sound_panel}
 use Rattle.mirror.specs.Stream.{is_refused, start_as, run_as, run_of}
 use Rattle.mirror.specs.Promise.{summed}
 use Rattle.mirror.specs.laws.TableLaws.{refused_unsound}
@@ -15,7 +14,6 @@ use Rattle.mirror.specs.laws.WrittenLaws.{written_places}
 use Rattle.mirror.specs.declared.panel.Panel.{Panel}
 use Rattle.mirror.specs.declared.record.Recorded.{Recorded}
 use Rattle.mirror.specs.declared.stream.Run.{Run}
-use Rattle.picture.specs.Paint.{paint_paper}
 use Rattle.demands.specs.Unknown.{RefusedCalls, UnknownRefused, DisagreeingRefused}
 
 -- a panel that is not sound is refused by every call but the comparison, which is told a chip alone

@@ -1,6 +1,6 @@
 -- THE TABLE OF MIRRORED PICTURES (document 02, wish 5): in mode B, which is Function Set bit 0, on one line and on two. The frames of mode A were worked out from
 -- the paper (THE TABLE OF PICTURES); what the wish makes of a frame is said here of its bytes, without a word of where a dot lands.
-use Rattle.std.specs.Prelude.{ℕ, zero, suc, ◌-◌, refl, true, false, List, [], ◌∷◌, ◌++◌, replicate, take, drop, Ok, Err}
+use Rattle.std.specs.Prelude.{ℕ, zero, suc, ◌-◌, refl, true, List, [], ◌∷◌, ◌++◌, replicate, take, drop, Ok, Err}
 use Rattle.laws.specs.Bit.{bit, pack}
 use Rattle.mirror.specs.declared.answer.Refusal.TheVariants.{Size, Unsound}
 use Rattle.picture.specs.Paint.{Painted}
