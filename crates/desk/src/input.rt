@@ -30,8 +30,9 @@ fn hand_over<F: FnMut(&mut Progress, &[u8]) -> bool>(
     requires { F.IsAlwaysCallable wants_more }
 {
     for _ in 0..u64::MAX {
-        let n = read_block(rt, block)?;
-        progress.after(rt, name, n);
+        let read = read_block(rt, block);
+        progress.after(rt, name, read.unwrap_or(0));
+        let n = read?;
         if !wants_more(progress, &block[..n]) || n == 0 {
             break;
         }
