@@ -10,7 +10,7 @@ use Rattle.picture.specs.Frame.{glass}
 use Rattle.mirror.specs.Refusal.{refusal_number}
 use Rattle.mirror.specs.declared.answer.Refusal.{Refusal}
 use Rattle.mirror.specs.declared.answer.Refusal.TheVariants.{Size, Unsound}
-use Rattle.picture.specs.declared.compare.Dot.{Dot}
+use Rattle.picture.specs.declared.frame.Dot.{Dot}
 
 -- the first dot that differs, if one does, or a refusal
 abbrev pub Compared : Type 0

@@ -1,13 +1,14 @@
 // A frame that is painted on. It is painted by cells, a cell by columns, a column dot by dot.
 ghost use Rattle.std.specs.Prelude.{◌≡◌, ◌<◌, ◌*◌, length, replicate};
 ghost use Rattle.chip.specs.Sizes.{lines_of, positions};
+ghost use Rattle.laws.specs.Bit.{one};
 ghost use Rattle.dots.specs.engine.Cells.{put};
 ghost use Rattle.picture.specs.Pattern.{tall, wide};
-ghost use Rattle.picture.specs.engine.Shown.{cell_put, column_put};
+ghost use Rattle.picture.specs.engine.Shown.{Inside, cell_put, column_put};
 ghost use Rattle.picture.specs.engine.Wiring.{wired};
 
 use crate::cursor::Spot;
-use crate::frame::landing;
+use crate::frame::{Dot, landing};
 use crate::mode::Wiring;
 use crate::pattern::{TALL, WIDE};
 
@@ -29,14 +30,18 @@ impl Canvas<'_> {
         self.frame.fill(0);
     }
 
-    // Lights one dot of the picture where v is 1, in the place that it takes on the glass.
-    fn put_dot(&mut self, row: usize, column: usize, v: u8)
-        requires { (row < (wired self.old.wiring).rows) × (column < (wired self.old.wiring).cols) × (v < 2) }
-        ensures { Drawn self.old self.new (put (wired self.old.wiring) self.old.frame.now row column v) }
+    // Lights one dot of the picture, if it is lit, in the place that it takes on the glass.
+    fn put_dot(&mut self, at: Dot, lit: bool)
+        requires { Inside (wired self.old.wiring) at }
+        ensures { Drawn self.old self.new (put (wired self.old.wiring) self.old.frame.now at.row at.column (one lit)) }
     {
         let wiring = self.wiring;
-        let p = landing(wiring.chip, wiring.row_on(row), wiring.column_on(column));
-        self.frame[p.byte] |= v << p.bit;
+        let on = Dot {
+            row: wiring.row_on(at.row),
+            column: wiring.column_on(at.column),
+        };
+        let p = landing(wiring.chip, on);
+        self.frame[p.byte] |= u8::from(lit) << p.bit;
     }
 
     // Paints column c of the cell at a spot.
@@ -45,8 +50,11 @@ impl Canvas<'_> {
         ensures { Drawn self.old self.new (column_put (wired self.old.wiring) rows (at.line * tall) (at.position * wide) c self.old.frame.now) }
     {
         for (i, row) in rows.iter().enumerate() {
-            let v = (row >> (WIDE - 1 - c)) & 1;
-            self.put_dot(at.line * TALL + i, at.position * WIDE + c, v);
+            let dot = Dot {
+                row: at.line * TALL + i,
+                column: at.position * WIDE + c,
+            };
+            self.put_dot(dot, (row >> (WIDE - 1 - c)) & 1 == 1);
         }
     }
 

@@ -2,16 +2,9 @@
 ghost use Rattle.std.specs.Prelude.{◌≡◌};
 ghost use Rattle.picture.specs.Compare.{Compares};
 
-use crate::frame::{COLUMNS, Glass, rows};
+use crate::frame::{COLUMNS, Dot, Glass, rows};
 use chip::sizes::known;
 use mirror::answer::Refusal;
-
-// A dot of a frame.
-#[derive(Clone, Copy, PartialEq, Eq)]
-pub struct Dot {
-    pub row: usize,
-    pub column: usize,
-}
 
 // Compares two frames of a chip: answers the first dot, by rows, at which they differ, if there is one.
 pub fn compare(chip: u8, a: &[u8], b: &[u8]) -> Result<Option<Dot>, Refusal>
@@ -25,8 +18,9 @@ pub fn compare(chip: u8, a: &[u8], b: &[u8]) -> Result<Option<Dot>, Refusal>
     let mut found = None;
     'rows: for row in 0..rows(chip) {
         for column in 0..COLUMNS {
-            if one.dot(row, column) != other.dot(row, column) {
-                found = Some(Dot { row, column });
+            let at = Dot { row, column };
+            if one.lit(at) != other.lit(at) {
+                found = Some(at);
                 break 'rows;
             }
         }

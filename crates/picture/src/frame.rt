@@ -1,8 +1,8 @@
 // The frame of a chip: 8 rows of 80 dots for each of its lines, and where each dot lands.
-ghost use Rattle.std.specs.Prelude.{◌≡◌, ◌≢◌, ◌<◌, length, MatchResult};
+ghost use Rattle.std.specs.Prelude.{◌≡◌, ◌≢◌, eqb, length, MatchResult};
 ghost use Rattle.dots.specs.Landing.{dot};
 ghost use Rattle.picture.specs.Frame.{FrameSize, Rows, glass, lit_at};
-ghost use Rattle.picture.specs.engine.Shown.{Lands};
+ghost use Rattle.picture.specs.engine.Shown.{Inside, Lands};
 
 use crate::pattern::{TALL, WIDE};
 use chip::sizes::{MOST_LINES, POSITIONS, lines};
@@ -15,6 +15,14 @@ const ROW_BYTES: usize = COLUMNS / 8;
 // The bytes of the largest frame.
 pub const MOST_FRAME_SIZE: usize = MOST_LINES * TALL * ROW_BYTES;
 
+// A dot, of a frame or of the picture.
+#[derive(Clone, Copy, PartialEq, Eq)]
+pub struct Dot {
+    pub row: usize,
+    pub column: usize,
+}
+
+// Where a dot lies: its byte, and which bit of that.
 #[derive(Clone, Copy)]
 pub struct Place {
     pub byte: usize,
@@ -36,13 +44,13 @@ pub fn frame_size(chip: u8) -> usize
 }
 
 // Where a dot of the frame lands; of the picture too, in mode A.
-pub(crate) fn landing(chip: u8, row: usize, column: usize) -> Place
-    requires { (row < (glass chip).rows) × (column < (glass chip).cols) }
-    ensures { Lands chip row column result }
+pub(crate) fn landing(chip: u8, at: Dot) -> Place
+    requires { Inside (glass chip) at }
+    ensures { Lands chip at.row at.column result }
 {
     Place {
-        byte: row * ROW_BYTES + column / 8,
-        bit: 7 - column % 8,
+        byte: at.row * ROW_BYTES + at.column / 8,
+        bit: 7 - at.column % 8,
     }
 }
 
@@ -65,13 +73,13 @@ impl<'a> Glass<'a> {
         Ok(Glass { chip, frame })
     }
 
-    // One dot, 0 or 1.
-    pub(crate) fn dot(&self, row: usize, column: usize) -> u8
-        requires { (row < (glass self.now.chip).rows) × (column < (glass self.now.chip).cols) }
-        ensures { result ≡ dot (glass self.now.chip) self.now.frame.now row column }
+    // Whether a dot is lit.
+    pub(crate) fn lit(&self, at: Dot) -> bool
+        requires { Inside (glass self.now.chip) at }
+        ensures { result ≡ eqb (dot (glass self.now.chip) self.now.frame.now at.row at.column) 1 }
     {
-        let p = landing(self.chip, row, column);
-        (self.frame[p.byte] >> p.bit) & 1
+        let p = landing(self.chip, at);
+        (self.frame[p.byte] >> p.bit) & 1 == 1
     }
 }
 
@@ -83,5 +91,5 @@ pub fn lit_at(chip: u8, frame: &[u8], row: usize, column: usize) -> bool
     let Ok(glass) = Glass::of(chip, frame) else {
         return false;
     };
-    row < rows(chip) && column < COLUMNS && glass.dot(row, column) == 1
+    row < rows(chip) && column < COLUMNS && glass.lit(Dot { row, column })
 }

@@ -12,6 +12,7 @@ use Rattle.picture.specs.Frame.{glass}
 use Rattle.picture.specs.engine.Wiring.{wired}
 use Rattle.picture.specs.declared.mode.Wiring.{Wiring}
 use Rattle.picture.specs.Picture.{shape_at, cursor_row}
+use Rattle.picture.specs.declared.frame.Dot.{Dot}
 use Rattle.picture.specs.declared.frame.Place.{Place}
 
 -- five dots that are all lit
@@ -49,6 +50,10 @@ line_put w s font dark l = line (wired w) tall wide positions (page_dot s font d
 
 abbrev pub page_put : Wiring → Sheet → List ℕ → Bool → List ℕ → List ℕ
 page_put w s font dark = page (wired w) tall wide positions (lines_of w.chip) (page_dot s font dark)
+
+-- the dot is one of the landing's
+abbrev pub Inside : Landing → Dot → Type 0
+Inside L at = (at.row < L.rows) × (at.column < L.cols)
 
 -- the place is where dot (r, x) of a chip's frame lands, which is inside the frame
 pub record Lands (chip r x : ℕ) (place : Place) : Type 0 where

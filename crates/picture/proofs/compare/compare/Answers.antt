@@ -1,9 +1,11 @@
-use Rattle.std.proofs.Common.{ℕ, List, Option, None, Ok, ◌≡◌, ◌+◌, ◌<◌, ◌≤◌, true, false, not, sym, ap, ap₂, ◌∙◌, arith, eq-eqb, ne_eqb}
+use Rattle.std.proofs.Common.{ℕ, zero, suc, List, Bool, eqb, refl, Option, None, Ok, ◌≡◌, ◌+◌, ◌<◌, ◌≤◌, true, false, not, sym, ap, ap₂, ◌∙◌, arith}
+use mathlib.Core.Bool.{beq}
+use Rattle.laws.specs.laws.BitLaws.{bit_lt}
 use Rattle.dots.specs.Landing.{dot}
 use Rattle.dots.specs.laws.FirstLaws.{first_here, first_next, first_end, rows_next, rows_end}
 use Rattle.picture.specs.Frame.{glass}
 use Rattle.picture.specs.Compare.{Compared, differ, differs_at, compared_of}
-use Rattle.picture.specs.declared.compare.Dot.{Dot}
+use Rattle.picture.specs.declared.frame.Dot.{Dot}
 use Rattle.picture.proofs.laws.CompareLaws.{compares}
 use Rattle.picture.proofs.compare.compare.Invariants.{Seeking, from_row, from_dot}
 use Rattle.picture.proofs.compare.compare.Goals as goal
@@ -12,8 +14,23 @@ on : {chip : ℕ} {a b : List ℕ} {found : Option Dot} {left next : Compared} �
 on S e = record { nothing = S.nothing; rest = e }
 
 -- a dot of a frame of the chip's size is a dot of the frame
-seen : {chip of n : ℕ} {a frame : List ℕ} (row column : ℕ) → of ≡ chip → frame ≡ a → n ≡ dot (glass of) frame row column → n ≡ dot (glass chip) a row column
-seen row column p q e = e ∙ ap₂ (λ (k : ℕ) (l : List ℕ). dot (glass k) l row column) p q
+seen : {chip of : ℕ} {a frame : List ℕ} {lit : Bool} (row column : ℕ) → of ≡ chip → frame ≡ a → lit ≡ eqb (dot (glass of) frame row column) 1
+    → lit ≡ eqb (dot (glass chip) a row column) 1
+seen row column p q e = e ∙ ap₂ (λ (k : ℕ) (l : List ℕ). eqb (dot (glass k) l row column) 1) p q
+
+-- two dots differ where one of them is lit
+beside_lit : (m n : ℕ) → m < 2 → n < 2 → beq (eqb m 1) (eqb n 1) ≡ eqb m n
+beside_lit zero zero p q = refl
+beside_lit zero (suc zero) p q = refl
+beside_lit (suc zero) zero p q = refl
+beside_lit (suc zero) (suc zero) p q = refl
+beside_lit m (suc (suc n)) p q = absurd (omega arith)
+beside_lit (suc (suc m)) n p q = absurd (omega arith)
+
+differs : (chip : ℕ) (a b : List ℕ) (row column : ℕ) (x y : Bool) → x ≡ eqb (dot (glass chip) a row column) 1 → y ≡ eqb (dot (glass chip) b row column) 1
+    → not (beq x y) ≡ differ chip a b row column
+differs chip a b row column x y p q =
+    ap₂ (λ (u v : Bool). not (beq u v)) p q ∙ ap not (beside_lit (dot (glass chip) a row column) (dot (glass chip) b row column) (bit_lt _ _) (bit_lt _ _))
 
 -- the first dot of a row, the next dot, the next row
 module _ {chip : ℕ} {a b : List ℕ} {found : Option Dot} where
@@ -44,10 +61,9 @@ loop-column-init c =
 pub loop-column-preserved : goal.loop-column-preserved
 loop-column-preserved c =
     let S = c.loop-column.invariant.0 in
-    let one = seen c.rows.row c.loop-column.column c.in_ok-one.ensures.0 c.in_ok-one.ensures.1 c.dot.ensures in
-    let other = seen c.rows.row c.loop-column.column c.in_ok-other.ensures.0 c.in_ok-other.ensures.1 c.dot-in-loop-column.ensures in
-    let same = ap not (eq-eqb _ _ (sym one ∙ c.if-dot.false ∙ other)) in
-    (beside _ c.loop-column.column S (omega arith) same, c.loop-column.invariant.1, omega arith)
+    let one = seen c.rows.row c.loop-column.column c.in_ok-one.ensures.0 c.in_ok-one.ensures.1 c.lit.ensures in
+    let other = seen c.rows.row c.loop-column.column c.in_ok-other.ensures.0 c.in_ok-other.ensures.1 c.lit-in-loop-column.ensures in
+    (beside _ c.loop-column.column S (omega arith) (sym (differs c.args.chip c.args.a.now c.args.b.now c.rows.row c.loop-column.column _ _ one other) ∙ c.if-lit.false), c.loop-column.invariant.1, omega arith)
 
 pub rows-preserved : goal.rows-preserved
 rows-preserved c =
@@ -58,9 +74,8 @@ pub returns-after-rows : goal.returns-after-rows
 returns-after-rows c =
     compares _ _ _ _ (nowhere c.rows.row c.rows.invariant.0 (omega arith))
 
-pub returns-then-dot : goal.returns-then-dot
-returns-then-dot c =
-    let one = seen c.rows.row c.loop-column.column c.in_ok-one.ensures.0 c.in_ok-one.ensures.1 c.dot.ensures in
-    let other = seen c.rows.row c.loop-column.column c.in_ok-other.ensures.0 c.in_ok-other.ensures.1 c.dot-in-loop-column.ensures in
-    let differs = ap not (ne_eqb _ _ (λ e. c.if-dot.true (one ∙ e ∙ sym other))) in
-    compares _ _ _ _ (there _ c.loop-column.column c.loop-column.invariant.0 (omega arith) differs)
+pub returns-then-lit : goal.returns-then-lit
+returns-then-lit c =
+    let one = seen c.rows.row c.loop-column.column c.in_ok-one.ensures.0 c.in_ok-one.ensures.1 c.lit.ensures in
+    let other = seen c.rows.row c.loop-column.column c.in_ok-other.ensures.0 c.in_ok-other.ensures.1 c.lit-in-loop-column.ensures in
+    compares _ _ _ _ (there _ c.loop-column.column c.loop-column.invariant.0 (omega arith) (sym (differs c.args.chip c.args.a.now c.args.b.now c.rows.row c.loop-column.column _ _ one other) ∙ c.if-lit.true))

@@ -3,7 +3,7 @@ use Rattle.std.proofs.Common.{ℕ, List, ◌≡◌, ◌+◌, ◌-◌, ◌<◌, �
 use Rattle.dots.specs.First.{first, first_dot}
 use Rattle.picture.specs.Frame.{glass}
 use Rattle.picture.specs.Compare.{Compared, differ, differs_at, compared_of}
-use Rattle.picture.specs.declared.compare.Dot.{Dot}
+use Rattle.picture.specs.declared.frame.Dot.{Dot}
 use Rattle.picture.proofs.compare.compare.Given as goal
 
 -- what is left from a row on, and from a dot on
