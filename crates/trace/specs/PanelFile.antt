@@ -95,5 +95,5 @@ abbrev pub panel_size : ℕ
 panel_size = 106
 
 -- the panel that a file holds, or why it holds none
-abbrev pub panel_read : List ℕ → Result Panel Misfit
-panel_read b = pick (length b == panel_size) (pick (fits_in b) (Ok (file_panel b)) (Err Byte)) (Err Size)
+abbrev pub panel_told : List ℕ → Result Panel Misfit
+panel_told b = pick (length b == panel_size) (pick (fits_in b) (Ok (file_panel b)) (Err Byte)) (Err Size)

@@ -16,7 +16,7 @@ use desk::told::told_at;
 use frames::{frames_at, size_at};
 use mirror::panel::Panel;
 use mirror::stream::Run;
-use panel_file::{Misfit, panel_read};
+use panel_file::{Misfit, panel_told};
 use picture::pattern::{FONT_SIZE, TALL};
 use records::record_all;
 use show::{show_difference, show_painting, show_run};
@@ -69,7 +69,7 @@ fn font_at(rt: &HostRuntime, place: Option<usize>) -> Result<Buffer<ROOM>, Stopp
 // The panel in a file.
 fn loaded_panel(rt: &HostRuntime, place: usize) -> Result<Panel, Stopped> {
     let file = load(rt, place)?;
-    panel_read(file.as_slice()).map_err(|misfit| match misfit {
+    panel_told(file.as_slice()).map_err(|misfit| match misfit {
         Misfit::Size => complain(b"trace", b"a panel file has 106 bytes"),
         Misfit::Byte => complain(b"trace", b"the panel file holds a byte that no panel has"),
     })

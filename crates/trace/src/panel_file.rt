@@ -1,7 +1,7 @@
 // A panel file: 106 bytes, as docs/TRACE.md lays them out.
 ghost use Rattle.std.specs.Prelude.{◌≡◌, ◌+◌, ◌≤◌, ◌==◌, Some, None, nat_lt, slice_range};
 ghost use Rattle.laws.specs.Pick.{pick};
-ghost use Rattle.trace.specs.PanelFile.{address_in, bits_fit, bool_of, file_panel, fits_in, half_holds, half_in, panel_read, registers_in, width_of};
+ghost use Rattle.trace.specs.PanelFile.{address_in, bits_fit, bool_of, file_panel, fits_in, half_holds, half_in, panel_told, registers_in, width_of};
 
 use chip::address::{Address, DisplayAddress, PatternAddress};
 use chip::registers::Registers;
@@ -119,8 +119,8 @@ fn panel_of(bytes: &[u8; PANEL_SIZE]) -> Option<Panel>
 }
 
 // The panel that a file holds, sound or not.
-pub(crate) fn panel_read(file: &[u8]) -> Result<Panel, Misfit>
-    ensures { result ≡ panel_read file.now }
+pub(crate) fn panel_told(file: &[u8]) -> Result<Panel, Misfit>
+    ensures { result ≡ panel_told file.now }
 {
     match <&[u8; PANEL_SIZE]>::try_from(file) {
         Ok(bytes) => panel_of(bytes).ok_or(Misfit::Byte),

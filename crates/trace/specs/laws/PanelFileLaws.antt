@@ -10,7 +10,7 @@ use Rattle.chip.specs.declared.address.Address.{Address}
 use Rattle.chip.specs.declared.registers.Registers.{Registers}
 use Rattle.mirror.specs.declared.half.Half.{Half}
 use Rattle.mirror.specs.declared.panel.Panel.{Panel}
-use Rattle.trace.specs.PanelFile.{address_in, bits_fit, bool_in, bool_of, byte_in, display_in, file_panel, fits_in, half_holds, half_in, is_bool, num32, panel_read, panel_size, pattern_in, registers_in, width_of}
+use Rattle.trace.specs.PanelFile.{address_in, bits_fit, bool_in, bool_of, byte_in, display_in, file_panel, fits_in, half_holds, half_in, is_bool, num32, panel_told, panel_size, pattern_in, registers_in, width_of}
 use Rattle.trace.specs.declared.panel_file.Misfit.{Misfit}
 use Rattle.trace.specs.declared.panel_file.Misfit.TheVariants.{Byte}
 
@@ -108,7 +108,7 @@ panel_read b r display pattern busy half reset long short last er eh ed ep eb e0
 
 -- the bytes of a file are its bytes as an array
 pub file_read : (file b : List ℕ) (o : Option Panel) (r : Result Panel Misfit) → length file ≡ panel_size → b ≡ file
-    → o ≡ pick (fits_in b) (Some (file_panel b)) None → r ≡ ok_or o Byte → r ≡ panel_read file
+    → o ≡ pick (fits_in b) (Some (file_panel b)) None → r ≡ ok_or o Byte → r ≡ panel_told file
 file_read file b o r long same eo er = er ∙ ap (λ (p : Option Panel). ok_or p Byte) (eo ∙ ap (λ (s : List ℕ). pick (fits_in s) (Some (file_panel s)) None) same) ∙ rw (eq-eqb _ _ long) (by (fits_in file))
   where
     by : (t : Bool) → ok_or (pick t (Some (file_panel file)) None) Byte ≡ pick t (Ok (file_panel file)) (Err Byte)

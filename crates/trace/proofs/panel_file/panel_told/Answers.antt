@@ -1,5 +1,5 @@
 use Rattle.trace.specs.laws.PanelFileLaws.{file_read}
-use Rattle.trace.proofs.panel_file.panel_read.Goals as goal
+use Rattle.trace.proofs.panel_file.panel_told.Goals as goal
 
 pub returns-in-Ok : goal.returns-in-Ok
 returns-in-Ok c =
