@@ -112,7 +112,7 @@ impl Row<'_> {
         self.drawing.lit_drawn(self.at, column)
     }
 
-    // The same of the row below, which is no row of the drawing where this is its last: nothing is lit there.
+    // The same of the row below. Below the last row nothing is lit.
     pub(crate) fn lit_below(&self, column: usize) -> bool
         ensures { let d = self.now.drawing in result ≡ lit_drawn d.apart d.dots.chip d.dots.frame.now (self.now.at + 1) column }
     {

@@ -8,6 +8,7 @@ ghost use Rattle.wall.specs.engine.Bitmap.{DotBit};
 use crate::apart::Dots;
 use desk::print::{show, show_number};
 use picture::frame::COLUMNS;
+use std::array;
 
 // Eight dots to a byte.
 const ROW_BYTES: usize = COLUMNS / 8;
@@ -36,11 +37,7 @@ impl Dots<'_> {
     fn row_bytes(&self, row: usize) -> [u8; ROW_BYTES]
         ensures { result ≡ bitmap_row self.now.chip self.now.frame.now row }
     {
-        let mut bytes = [0; ROW_BYTES];
-        for (i, byte) in bytes.iter_mut().enumerate() {
-            *byte = self.eight(row, 8 * i);
-        }
-        bytes
+        array::from_fn(|i| self.eight(row, 8 * i))
     }
 }
 

@@ -65,7 +65,7 @@ fn put_edge(page: &mut Page, drawing: &Drawing<'_>)
     page.put(b"+\n");
 }
 
-// How many rows of dots a line shows.
+// How many rows of dots a line shows. So the flag `pairs` is no step handed in: how many lines there are hangs on it too.
 fn rows_shown(pairs: bool) -> usize
     ensures { RowsShown pairs result }
 {

@@ -1,4 +1,6 @@
 // The panel's picture, painted and shown.
+#![tactic(auto, using(desk::specs::laws::PageLaws::rows))]
+
 ghost use Rattle.std.specs.Prelude.{◌≡◌};
 ghost use Rattle.desk.specs.Page.{Puts};
 ghost use Rattle.picture.specs.Paint.{frame_after};
