@@ -7,6 +7,7 @@ ghost use Rattle.chip.specs.Written.{written_in};
 use crate::sizes::{DISPLAY_SIZE, SPACE};
 
 // The walk over display memory.
+#[tactic(auto, using(crate::proofs::laws::WrittenLaws::walk))]
 pub(crate) fn written_in(display: [u8; DISPLAY_SIZE]) -> u32
     ensures { result ≡ written_in display_size display }
 {
@@ -17,6 +18,7 @@ pub(crate) fn written_in(display: [u8; DISPLAY_SIZE]) -> u32
 }
 
 // The bits with that of one place as told, and all others as they were: cleared, and set anew (docs/DECISIONS.md, "Speed").
+#[tactic(auto, using(crate::proofs::laws::WrittenLaws::anew))]
 pub(crate) fn with_bit(bits: u32, place: usize, set: bool) -> u32
     requires { place < display_size }
     ensures { result ≡ with_bit display_size place set bits }

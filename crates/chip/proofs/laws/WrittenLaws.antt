@@ -2,14 +2,16 @@
 use Rattle.std.specs.Prelude.{ℕ, zero, suc, ◌+◌, ◌-◌, ◌*◌, ◌%◌, ◌^◌, ◌<◌, ◌≤◌, ◌≡◌, refl, Bool, true, false, not, List, [], ◌∷◌, length, get_or, set, drop, replicate, reverse, ltb, eqb}
 use Rattle.std.proofs.Common.{sym, ap, ◌∙◌, arith, lt_of_lt_of_le, pow_mono, length-drop, get_or-set_same, get_or-set_other, get_or-drop, eqb-true, le-ltb}
 use mir.Val.{bool_byte}
+use lib.Pow.{shl_exact}
 use Rattle.std.specs.List.{fold}
-use Rattle.std.specs.Int.Bits.{bit_or}
+use Rattle.std.specs.Int.Bits.{bit_or, bit_xor}
 use Rattle.std.proofs.lemmas.Bool.{eqb-false}
 use Rattle.std.proofs.lemmas.Grind.{fold-append, reverse_onto, or_after_shift}
 use Rattle.std.proofs.lemmas.List.Sums.{AllPass-from_list_all}
+use Rattle.std.proofs.iter.runs.Made.{chains}
 use Rattle.laws.specs.Pick.{pick}
 use Rattle.laws.specs.Bit.{bit, one, pack, with_bit}
-use Rattle.laws.specs.laws.BitLaws.{one_lt, bit_pack, pack_ext, pack_lt, with_pack}
+use Rattle.laws.specs.laws.BitLaws.{one_lt, bit_pack, pack_ext, pack_lt, with_pack, bit_anew}
 use Rattle.chip.specs.Sizes.{places_of, display_size, pattern_size, function_end, space}
 use Rattle.chip.specs.Address.{display, pattern}
 use Rattle.chip.specs.Instruction.{is_set, unset, decoded}
@@ -73,6 +75,24 @@ walk_turns [] h = refl
 walk_turns (x ∷ m) h =
     ap (fold turn 0) (reverse_onto m x []) ∙ fold-append turn 0 (reverse m) (x ∷ []) ∙ ap (λ b. turn b x) (walk_turns m (omega arith))
     ∙ turned (written_in (length m) m) x (omega (arith, walk_lt (display_size - 1) (length m) m (omega arith)))
+
+pub walked : (m : List ℕ) {bits : ℕ} → length m ≡ display_size → bits ≡ fold turn 0 (reverse m) → bits ≡ written_in display_size m
+walked m size turns = turns ∙ walk_turns m (omega arith) ∙ ap (λ (n : ℕ). written_in n m) size
+
+pub ruleset walk = (walked, chains)
+
+-- one bit set by `or`, cleared by `xor` and set anew by `or`: what is shifted there stays in the number
+shifted : (b : Bool) (place : ℕ) → place < display_size → bool_byte b * 2 ^ place % 2 ^ display_size ≡ one b * 2 ^ place
+shifted b place h =
+    ap (λ (x : ℕ). x * 2 ^ place % 2 ^ display_size) (cast_bit b) ∙ shl_exact {a = one b} 1 place display_size (one_lt b) (omega arith)
+
+pub anew : (bits place : ℕ) (set : Bool) → place < display_size → bits < 2 ^ display_size →
+    let m = 1 * 2 ^ place % 2 ^ display_size in
+    bit_or (bit_xor (bit_or bits m) m) (bool_byte set * 2 ^ place % 2 ^ display_size) ≡ with_bit display_size place set bits
+anew bits place set h l =
+    ap (λ (m : ℕ). bit_or (bit_xor (bit_or bits m) m) (bool_byte set * 2 ^ place % 2 ^ display_size)) (shl_exact {a = 1} 1 place display_size (omega arith) (omega arith))
+    ∙ ap (λ (v : ℕ). bit_or (bit_xor (bit_or bits (1 * 2 ^ place)) (1 * 2 ^ place)) v) (shifted set place h)
+    ∙ bit_anew display_size place set bits h l
 
 -- a display write sets its one bit where the byte isn't 20h, and clears it where it is
 pub write_marks : (a : DisplayAddress) (byte : ℕ) (s : Sheet) → display_size ≤ length s.display →
