@@ -9,7 +9,6 @@ pub enum Frame {
     Cut,
     // A record that can't be used, and its size with the length's own two bytes.
     Bad(usize),
-    // Its fields stand here apart: with a struct of them the loop over records ran a tenth more instructions a record.
     Transfer {
         time: u64,
         rs: bool,

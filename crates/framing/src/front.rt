@@ -1,5 +1,5 @@
 // The record at the front of a log: told by its length, kind, time and control.
-ghost use Rattle.std.specs.Prelude.{◌≡◌, ◌+◌, ◌≤◌, length};
+ghost use Rattle.std.specs.Prelude.{◌≡◌, ◌+◌, ◌≤◌, length, MatchBool};
 ghost use Rattle.framing.specs.Flaw.{flaw_of};
 ghost use Rattle.framing.specs.Frame.{num16, time_of, told_size, whole_size, wants_more, frame_of};
 ghost use Rattle.framing.specs.engine.Reading.{Whole};
@@ -96,33 +96,38 @@ fn reset(log: &[u8]) -> Frame
     Frame::Reset { time }
 }
 
-// Any record, by its size and kind.
+// Whether a transfer of the right length stands at the front: one look at its first four bytes tells.
+fn is_transfer(log: &[u8]) -> bool
+    ensures { MatchBool result (Whole log.now 14 1) (Whole log.now 14 1 → ⊥) }
+{
+    14 <= log.len() && u32::from_le_bytes([log[0], log[1], log[2], log[3]]) == TRANSFER
+}
+
+// Any other record, by its size and kind.
 #[tactic(auto, using(crate::specs::laws::FrameLaws::any_laws))]
-fn any(log: &[u8]) -> Frame
+fn other(log: &[u8]) -> Frame
+    requires { Whole log.now 14 1 → ⊥ }
     ensures { result ≡ frame_of log.now }
 {
     let Some(size) = whole(log) else {
         return Frame::Cut;
     };
-    match (num16(log, 2), size) {
-        (1, 14) => transfer(log),
-        (2, 12) => reset(log),
-        _ => Frame::Bad(size),
+    if size == 12 && num16(log, 2) == 2 {
+        reset(log)
+    } else {
+        Frame::Bad(size)
     }
 }
 
-// The record at the front, whatever follows it. Nearly all are transfers of the right length, which one look at the
-// first four bytes tells.
+// The record at the front, whatever follows it. Nearly all are transfers of the right length.
 pub fn frame(log: &[u8]) -> Frame
     ensures { result ≡ frame_of log.now }
 {
-    if 14 <= log.len() {
-        let head = u32::from_le_bytes([log[0], log[1], log[2], log[3]]);
-        if head == TRANSFER {
-            return transfer(log);
-        }
+    if is_transfer(log) {
+        transfer(log)
+    } else {
+        other(log)
     }
-    any(log)
 }
 
 // What is wrong with the record at the front: the first of these, whatever follows it.
