@@ -51,7 +51,7 @@ fn put_codes_line(page: &mut Page, codes: [u8; POSITIONS])
     page.put(b"\n");
 }
 
-// What a line shows, as text or as numbers. A flag tells which: the clause of a step handed in would be longer than both.
+// What a line shows, as text or as numbers. The definition has the same flag, so that no step is handed in.
 fn put_shown(page: &mut Page, codes: [u8; POSITIONS], text: bool)
     ensures { Puts (shown_line text codes) page.old page.new }
 {

@@ -32,7 +32,8 @@ fn put_pair(page: &mut Page, upper: bool, lower: bool)
     }
 }
 
-// What a line shows of a column: a mark for its dot, or a block for it and the one below it.
+// What a line shows of a column: a mark for its dot, or a block for it and the one below it. `pairs` is no step handed in: how
+// many lines there are hangs on it too.
 fn put_column(page: &mut Page, row: &Row<'_>, column: usize, pairs: bool)
     ensures { let d = row.now.drawing in Puts (column_bytes d.apart d.dots.chip pairs d.dots.frame.now row.now.at column) page.old page.new }
 {
@@ -65,7 +66,7 @@ fn put_edge(page: &mut Page, drawing: &Drawing<'_>)
     page.put(b"+\n");
 }
 
-// How many rows of dots a line shows. So the flag `pairs` is no step handed in: how many lines there are hangs on it too.
+// How many rows of dots a line shows.
 fn rows_shown(pairs: bool) -> usize
     ensures { RowsShown pairs result }
 {

@@ -1,7 +1,5 @@
 // The font that the program has of its own, drawn in fonts/harbour.txt: codes 10h to FFh, eight rows each from the top, five
 // dots in the low bits.
-use buffer::buffer::Buffer;
-use desk::bytes::ROOM;
 use picture::pattern::FONT_SIZE;
 
 const FONT: [u8; FONT_SIZE] = [
@@ -72,7 +70,7 @@ const FONT: [u8; FONT_SIZE] = [
     0, 0, 0, 0, 0, 0, 0, 0, 0, 0,
 ];
 
-// The font as bytes of a file.
-pub(crate) fn built_in() -> Buffer<ROOM> {
-    Buffer::keep(&FONT)
+// The font as it stands in a file.
+pub(crate) fn built_in() -> &'static [u8] {
+    &FONT
 }

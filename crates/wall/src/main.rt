@@ -150,15 +150,15 @@ fn run(rt: &HostRuntime) -> Result<(), Stopped> {
     let form = form_of(places)?;
     let told = told_at(rt, b"wall", places[CHIP], places[TIMES])?;
     let until = places[AT].map(|place| time_at(rt, place)).transpose()?;
-    let font = match places[FONT] {
-        Some(place) => font_at(rt, place)?,
-        None => font::built_in(),
-    };
+    let named = places[FONT].map(|place| font_at(rt, place)).transpose()?;
     let living = places[LIVE].is_some();
     // Live, the cells stand apart.
     let wanted = Wanted {
         form,
-        font: font.as_slice(),
+        font: match &named {
+            Some(font) => font.as_slice(),
+            None => font::built_in(),
+        },
         apart: places[APART].is_some() || living,
         dark: places[DARK].is_some(),
         upright: places[UPRIGHT].is_some(),
