@@ -30,11 +30,11 @@ pub(crate) fn put_line(page: &mut Page, number: u8, byte: u8)
 // Every record that a part makes whole.
 fn answer_part(stream: &mut Stream, part: &[u8]) {
     let mut page = Page::blank();
-    let mut at: usize = 0;
+    let mut rest = part;
     loop {
-        let next = stream.next(&part[at..]);
+        let next = stream.next(rest);
         *stream = next.after;
-        at += next.taken;
+        rest = &rest[next.taken..];
         let Reply::Answered(verdict) = next.reply else {
             break;
         };

@@ -1,5 +1,5 @@
 // A line for each record of standard input, every one by a call of its own on the panel that the one before it left.
-ghost use Rattle.std.specs.Prelude.{◌≡◌, ◌≤◌, length};
+ghost use Rattle.std.specs.Prelude.{◌≡◌};
 ghost use Rattle.trace.specs.engine.Records.{run_after, run_over, run_start};
 
 use crate::answers::{answer_all, put_line};
@@ -46,24 +46,22 @@ fn end_at(run: &mut Run, tail: &[u8])
     run.cut = !run.refused;
 }
 
-// Every whole record at the front of the bytes, its line put on the page: how many bytes they had.
-fn read_records(run: &mut Run, bytes: &[u8], page: &mut Page) -> usize
-    ensures { result ≤ length bytes.now }
-{
-    let mut at: usize = 0;
+// Every whole record at the front of the bytes, its line put on the page: what is left of them.
+fn read_records<'a>(run: &mut Run, bytes: &'a [u8], page: &mut Page) -> &'a [u8] {
+    let mut rest = bytes;
     loop {
-        let r = run.panel.record(&bytes[at..]);
+        let r = run.panel.record(rest);
         if r.used == 0 {
-            return at;
+            return rest;
         }
         put_line(page, r.answer.number(), r.byte);
         count(run, r);
-        at += r.used;
+        rest = &rest[r.used..];
     }
 }
 
 // What is left of a part waits where it wants more; otherwise it ends the reading.
-fn rest(run: &mut Run, tail: &[u8]) -> Carry {
+fn keep(run: &mut Run, tail: &[u8]) -> Carry {
     if wants_more(tail) {
         return Carry::keep(tail);
     }
@@ -71,20 +69,16 @@ fn rest(run: &mut Run, tail: &[u8]) -> Carry {
     Carry::empty()
 }
 
-// A part of the log, after the bytes that wait: the bytes that then wait.
+// A part of the log, after the bytes that wait, whose record comes first: the bytes that then wait.
 fn read_part(run: &mut Run, waiting: Carry, part: &[u8]) -> Carry {
     let filled = waiting.wanting().fill(part);
-    let head = filled.carry.bytes();
     let mut page = Page::blank();
-    let carry = if read_records(run, head, &mut page) == 0 {
-        rest(run, head)
-    } else {
-        let others = &part[filled.taken..];
-        let used = read_records(run, others, &mut page);
-        rest(run, &others[used..])
-    };
+    let mut tail = read_records(run, filled.carry.bytes(), &mut page);
+    if tail.is_empty() {
+        tail = read_records(run, &part[filled.taken..], &mut page);
+    }
     page.write_out();
-    carry
+    keep(run, tail)
 }
 
 // The whole of standard input. A panel that is refused takes no record, and so none can move it on: how many there are

@@ -12,7 +12,7 @@ use mirror::answer::Refusal;
 use mirror::half::Half;
 use mirror::panel::Panel;
 use mirror::stream::Run;
-use picture::compare::{Dot, compare};
+use picture::compare::compare;
 use picture::paint::paint;
 
 fn show_bits(label: &[u8], bits: &[bool]) {
@@ -146,9 +146,9 @@ pub(crate) fn show_painting(
 // The comparison of two frames of a chip.
 pub(crate) fn show_difference(chip: u8, a: &[u8], b: &[u8]) {
     match compare(chip, a, b) {
-        Ok(Some(Dot { row, column })) => {
-            show_number(b"differ ", row as u64);
-            show_number(b" ", column as u64);
+        Ok(Some(dot)) => {
+            show_number(b"differ ", dot.row as u64);
+            show_number(b" ", dot.column as u64);
         }
         Ok(None) => show(b"differ none"),
         Err(refusal) => show_refusal(b"differ refused ", refusal),

@@ -1,5 +1,5 @@
--- A record that the stream answers took some byte of the part.
-use Rattle.std.specs.Prelude.{◌≡◌, ℕ, ◌<◌, Bool, true, false, List, [], ◌∷◌, ◌++◌, length, refl}
+-- A record that the stream answers took some byte of the part, and no more than there are.
+use Rattle.std.specs.Prelude.{◌≡◌, ℕ, ◌<◌, ◌≤◌, Bool, true, false, List, [], ◌∷◌, ◌++◌, length, refl}
 use Rattle.std.proofs.Common.{sym, ap, ◌∙◌, arith, append-nil}
 use Rattle.std.proofs.lemmas.Bool.{false≢true}
 use Rattle.laws.specs.Pick.{pick}
@@ -8,6 +8,7 @@ use Rattle.framing.specs.Carry.{carried_of, filled, more}
 use Rattle.framing.specs.laws.CarryLaws.{wanting_wants}
 use Rattle.framing.specs.laws.CutLaws.{wants_cut}
 use Rattle.mirror.specs.Run.{counted}
+use Rattle.mirror.specs.laws.NextLaws.{next_within}
 use Rattle.mirror.specs.Stream.{StreamNext, is_refused, next_of, rested_of, waiting_bytes}
 use Rattle.mirror.specs.Table.{row_for}
 use Rattle.mirror.specs.declared.stream.Stream.{Stream}
@@ -49,3 +50,6 @@ module _ (st : Stream) (part : List ℕ) where
 
   pub answered_takes : (r : StreamNext) (v : Verdict) → r ≡ next_of st part → r.reply ≡ Answered v → 0 < r.taken
   answered_takes r v e a = rw e (takes v (rw e at a))
+
+  pub taken_within : (r : StreamNext) → r ≡ next_of st part → r.taken ≤ length part
+  taken_within r e = rw e (next_within st part)

@@ -1,6 +1,6 @@
 -- A record uses no more bytes than there are.
-use Rattle.std.specs.Prelude.{◌≡◌, ℕ, ◌+◌, ◌-◌, ◌≤◌, Bool, true, false, not, ◌||◌, List, length, take, drop, ◌==◌, refl}
-use Rattle.std.proofs.Common.{arith, length-take}
+use Rattle.std.specs.Prelude.{◌≡◌, ℕ, ◌≤◌, Bool, true, false, not, ◌||◌, List, length, ◌==◌, refl}
+use Rattle.std.proofs.Common.{arith}
 use Rattle.laws.specs.Pick.{pick}
 use Rattle.framing.specs.Frame.{cut_at, bad_at, is_reset, record_size}
 use Rattle.framing.specs.laws.FrontLaws.{uncut_front}
@@ -25,9 +25,3 @@ module _ (log : List ℕ) where
   used_within p r R =
       rw R.tabled.used
       (by_tests (not (sound_panel p)) (cut_at log) (pick (bad_at log) 6 (pick (is_back p log) 5 (pick (is_reset log) 0 (transfer_for p log)))) refl)
-
--- so the next one, in a block that is read from a place on, begins within the block
-pub used_reaches : (block : List ℕ) (at : ℕ) (p : Panel) (r : Recorded) → at ≤ length block
-    → Records p (take (length block - at) (drop at block)) r → at + r.used ≤ length block
-used_reaches block at p r h R =
-    omega (arith, used_within (take (length block - at) (drop at block)) p r R, length-take (length block - at) (drop at block))

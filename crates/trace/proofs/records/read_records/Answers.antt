@@ -1,14 +1,12 @@
-use Rattle.std.proofs.Common.{arith}
-use Rattle.trace.specs.laws.RecordsLaws.{used_reaches}
+use Rattle.std.proofs.Common.{ℕ, arith, length-take, length-drop}
+use Rattle.trace.specs.laws.RecordsLaws.{used_within}
 use Rattle.trace.proofs.records.read_records.Goals as goal
 
-pub overflow_add-at : goal.overflow_add-at
-overflow_add-at c =
-    omega (arith, used_reaches c.args.bytes.now c.loop-r.at c.loop-r.run.panel c.record-r.result c.loop-r.invariant c.record-r.ensures)
+pub slice_bounds-rest-count : goal.slice_bounds-rest-count
+slice_bounds-rest-count c = used_within _ _ _ c.record-r.ensures
+
+pub slice_bounds-rest-start : goal.slice_bounds-rest-start
+slice_bounds-rest-start c = omega (arith, used_within _ _ _ c.record-r.ensures)
 
 pub loop-r-smaller : goal.loop-r-smaller
-loop-r-smaller c =
-    omega (arith, used_reaches c.args.bytes.now c.loop-r.at c.loop-r.run.panel c.record-r.result c.loop-r.invariant c.record-r.ensures)
-
-pub loop-r-preserved : goal.loop-r-preserved
-loop-r-preserved c = used_reaches c.args.bytes.now c.loop-r.at c.loop-r.run.panel c.record-r.result c.loop-r.invariant c.record-r.ensures
+loop-r-smaller c = omega (arith, used_within _ _ _ c.record-r.ensures, length-take {A = ℕ}, length-drop {A = ℕ})
