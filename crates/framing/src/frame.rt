@@ -9,6 +9,8 @@ pub enum Frame {
     Cut,
     // A record that can't be used, and its size with the length's own two bytes.
     Bad(usize),
+    // By name, and no type of its own: the mirror's promises that its time is in time, which an account cannot promise of a half
+    // that is handed in, and the account's has methods that only the account can give it.
     Transfer {
         time: u64,
         rs: bool,
