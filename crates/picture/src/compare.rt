@@ -2,7 +2,8 @@
 ghost use Rattle.std.specs.Prelude.{◌≡◌};
 ghost use Rattle.picture.specs.Compare.{Compares};
 
-use crate::frame::{COLUMNS, Dot, Glass, rows};
+pub use crate::frame::Dot;
+use crate::frame::{COLUMNS, Glass, rows};
 use chip::sizes::known;
 use mirror::answer::Refusal;
 

@@ -6,7 +6,7 @@ ghost use Rattle.picture.specs.Frame.{most_frame_size};
 fn byte_ones(byte: u8) -> u16
     ensures { ByteOnes byte result }
 {
-    u8::count_ones(byte) as u16
+    byte.count_ones() as u16
 }
 
 // The sum has 16 bits, so that the compiler counts eight bytes at a time.
