@@ -1,6 +1,6 @@
 -- Laws of `table` and `in_order`.
-use Rattle.std.specs.Prelude.{ℕ, zero, suc, ◌+◌, ◌≤◌, ◌<◌, ◌≡◌, refl, List, ◌∷◌, length, get_or, set, replicate}
-use Rattle.std.proofs.Common.{sym, ap, ap₂, subst, ◌∙◌, not-suc-le-zero, le_of_suc-le-suc, add-one, arith, length-set, get_or-set_same, get_or-set_other, ext_get_or}
+use Rattle.std.specs.Prelude.{ℕ, zero, suc, ◌+◌, ◌≤◌, ◌<◌, ◌≡◌, refl, List, ◌∷◌, length, get_or, replicate}
+use Rattle.std.proofs.Common.{sym, ap, ap₂, subst, ◌∙◌, not-suc-le-zero, le_of_suc-le-suc, add-one, arith, ext_get_or}
 use Rattle.std.proofs.Math.Decide.{ℕ_discrete}
 use Rattle.std.specs.Array.{IsFromFnResultFrom, IsFromFnResult}
 use denote.Param.Members.{Mut, Called}
@@ -52,29 +52,6 @@ module _ {F A : Type 0} (g : Mut F (ℕ × Unit {0}) A) (h : ℕ → A) (f : F) 
   pub made_table : (n : ℕ) → IsFromFnResult g f l n → ((k : ℕ) (y : A) (q : F) → k < n → Called g f (k, tt) y q → (q ≡ f) × (y ≡ h k)) → l ≡ table h n
   made_table n r e =
       is_table h n l d r.long (λ i p. made_from 0 n (λ k y q h. e k y q (omega arith)) r.each i (omega arith) (omega arith))
-
--- a loop that fills a list from the front: of n places, those before i hold h
-pub record Filled (h : ℕ → ℕ) (n : ℕ) (l : List ℕ) (i : ℕ) : Type 0 where
-  pub within : i ≤ n
-  pub long : length l ≡ n
-  pub at : (k : ℕ) → k < i → get_or l k 0 ≡ h k
-
-pub fill_start : (h : ℕ → ℕ) (n : ℕ) (l : List ℕ) → length l ≡ n → Filled h n l 0
-fill_start h n l e = record { within = omega arith; long = e; at = (λ k p. absurd (not-suc-le-zero p)) }
-
-pub fill_step : (h : ℕ → ℕ) (n : ℕ) (l : List ℕ) (i a : ℕ) → Filled h n l i → i < n → a ≡ h i → Filled h n (set l i a) (i + 1)
-fill_step h n l i a F p e = record {
-  within = omega arith;
-  long = length-set l i a ∙ F.long;
-  at = (λ k q. go k q (ℕ_discrete k i));
-}
-  where
-    go : (k : ℕ) → k < i + 1 → Dec (k ≡ i) → get_or (set l i a) k 0 ≡ h k
-    go k q (yes d) = ap (λ (j : ℕ). get_or (set l i a) j 0) d ∙ get_or-set_same l i a 0 (omega (arith, F.long)) ∙ e ∙ ap h (sym d)
-    go k q (no d) = get_or-set_other l i k a 0 d ∙ F.at k (omega arith)
-
-pub fill_end : (h : ℕ → ℕ) (n : ℕ) (l : List ℕ) (i : ℕ) → Filled h n l i → n ≤ i → l ≡ table h n
-fill_end h n l i F p = is_table h n l 0 F.long (λ k q. F.at k (omega arith))
 
 pub in_order_none : {A : Type 0} (step : ℕ → A → A) (a : A) → in_order step 0 a ≡ a
 unfolding in_order
