@@ -15,7 +15,7 @@ use Rattle.mirror.specs.declared.totals.Totals.{Totals}
 use Rattle.mirror.specs.declared.stream.Stream.{Stream}
 use Rattle.mirror.specs.declared.stream.Run.{Run}
 use Rattle.mirror.specs.declared.stream.Next.{Next}
-use Rattle.mirror.specs.declared.stream.Verdict.{Verdict}
+use Rattle.mirror.specs.declared.answer.Verdict.{Verdict}
 use Rattle.mirror.specs.declared.stream.Reply.{Reply}
 use Rattle.mirror.specs.declared.stream.Front.{Front}
 use Rattle.mirror.specs.declared.stream.Reply.TheVariants.{Answered, More, Cut, Refused}

@@ -44,8 +44,10 @@ impl Answer {
     pub fn clocked(self) -> bool
         ensures { result ≡ clocked (number_of self) }
     {
-        let n = self.number();
-        ((n == 0) | (n == 11)) | (n <= 4) | (n == 7)
+        !matches!(
+            self,
+            Answer::Back | Answer::Bad | Answer::Cut | Answer::Unsound
+        )
     }
 
     // The place of its count; past the last where it has none. The cases stand in that order, so that it costs nothing.
@@ -98,6 +100,22 @@ pub const COUNTED: [Answer; COUNTS] = [
     Answer::Bad,
     Answer::Nothing,
 ];
+
+// How a record is answered, with the byte on the bus.
+#[derive(Clone, Copy)]
+pub struct Verdict {
+    pub answer: Answer,
+    pub byte: u8,
+}
+
+impl Verdict {
+    // With nothing on the bus.
+    pub(crate) fn of(answer: Answer) -> Verdict
+        ensures { result ≡ record { answer = answer; byte = 0 } }
+    {
+        Verdict { answer, byte: 0 }
+    }
+}
 
 // Why a call is refused: a log or record that is cut, a frame of another size, a panel or chip that is not sound.
 #[derive(Clone, Copy, PartialEq, Eq)]

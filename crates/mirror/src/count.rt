@@ -11,7 +11,7 @@ pub const COUNTS: usize = 9;
 pub fn raise(n: u64) -> u64
     ensures { result ≡ raised n }
 {
-    if n < u64::MAX { n + 1 } else { n }
+    n.saturating_add(1)
 }
 
 // The count of an answer, raised.

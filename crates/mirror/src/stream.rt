@@ -7,7 +7,7 @@ ghost use Rattle.mirror.specs.engine.Read.{totals_read, read_of};
 ghost use Rattle.mirror.specs.engine.Reading.{stopped_of};
 ghost use Rattle.mirror.specs.Promise.{Replies, Runs, end_refusal, run_refusal};
 
-use crate::answer::{Answer, Refusal};
+use crate::answer::{Refusal, Verdict};
 use crate::count::{COUNTS, raise};
 use crate::panel::Panel;
 use crate::reading::Reading;
@@ -45,13 +45,6 @@ pub enum Reply<T> {
     More,
     Cut,
     Refused,
-}
-
-// How a record was answered, with the byte on the bus.
-#[derive(Clone, Copy)]
-pub struct Verdict {
-    pub answer: Answer,
-    pub byte: u8,
 }
 
 // What was asked as it is after the call, and how many bytes of the part were taken.

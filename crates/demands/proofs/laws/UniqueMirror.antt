@@ -33,11 +33,14 @@ use Rattle.mirror.specs.contracts.reading.Reading.answer as reading·answer
 use Rattle.mirror.specs.contracts.reading.Reading.eight as reading·eight
 use Rattle.mirror.specs.contracts.reading.Reading.half as reading·half
 use Rattle.mirror.specs.contracts.reading.Reading.last as reading·last
+use Rattle.mirror.specs.contracts.reading.Reading.next as reading·next
 use Rattle.mirror.specs.contracts.reading.Reading.number as reading·number
+use Rattle.mirror.specs.contracts.reading.Reading.of as reading·of
 use Rattle.mirror.specs.contracts.reading.Reading.used as reading·used
 use Rattle.mirror.specs.contracts.stream.Stream.ended as stream·ended
 use Rattle.mirror.specs.contracts.stream.Stream.gathered as stream·gathered
 use Rattle.mirror.specs.contracts.stream.Stream.read as stream·read
+use Rattle.mirror.specs.laws.ReadLaws.{Left, steps_one}
 use Rattle.demands.specs.Unique.{Determines, DeterminesAnswer, DeterminesShown, answer, equation, shown_equation}
 use denote.RattleType.{RattleType}
 use mir.Syntax.{Dict}
@@ -132,6 +135,14 @@ module _ {M : Type 1} {𝓤 : Ura M} (𝓛 : Logic 𝓤) (mem : Memory → SProp
   pub stream_front : DeterminesAnswer 𝓤 stream·front.ended (stream·front.clauses 𝓛 mem run)
   stream_front = equation 𝓤 _ _ _ (λ κs a g r e. refl)
 
+  -- mirror::reading::Reading::of: result ≡ reading_of panel records
+  pub reading_of : DeterminesAnswer 𝓤 reading·of.ended (reading·of.clauses 𝓛 mem run)
+  reading_of = equation 𝓤 _ _ _ (λ κs a g r e. refl)
+
+  -- mirror::reading::Reading::next: Steps self.old log.now display.old pattern.old counts.old self.new display.new pattern.new counts.new
+  pub reading_next : Determines 𝓤 reading·next.ended (reading·next.clauses 𝓛 mem run) {L = Left} (λ κs e. (e.0.now, e.1.1.0.now, e.1.1.1.0.now, e.1.1.1.1.0.now))
+  reading_next = record { Says = _; stated = λ κs a g r e. refl; one = λ κs a r s e f p q. (refl, steps_one _ _ _ _ _ _ _ _ _ _ _ _ _ p q) }
+
   -- mirror::reading::Reading::answer: result ≡ answer_read self
   pub reading_answer : DeterminesAnswer 𝓤 reading·answer.ended (reading·answer.clauses 𝓛 mem run)
   reading_answer = equation 𝓤 _ _ _ (λ κs a g r e. refl)
@@ -140,7 +151,7 @@ module _ {M : Type 1} {𝓤 : Ura M} (𝓛 : Logic 𝓤) (mem : Memory → SProp
   pub reading_eight : DeterminesAnswer 𝓤 reading·eight.ended (reading·eight.clauses 𝓛 mem run)
   reading_eight = equation 𝓤 _ _ _ (λ κs a g r e. refl)
 
-  -- mirror::reading::Reading::half: result ≡ half_of self.live
+  -- mirror::reading::Reading::half: result ≡ half_read self
   pub reading_half : DeterminesAnswer 𝓤 reading·half.ended (reading·half.clauses 𝓛 mem run)
   reading_half = equation 𝓤 _ _ _ (λ κs a g r e. refl)
 

@@ -1,25 +1,20 @@
 -- The record that ends the watch is the one that its own time tells.
-use Rattle.std.specs.Prelude.{ℕ, ◌≤◌, ◌≡◌, refl, Bool, true, false, not, ◌&&◌, List, leb, ltb, length}
-use Rattle.std.proofs.Common.{sym, ap, ◌∙◌, le-leb, ltb-true, ltb-false, arith}
+use Rattle.std.specs.Prelude.{ℕ, ◌≡◌, refl, Bool, true, false, not, ◌&&◌, List, leb, ltb}
+use Rattle.std.proofs.Common.{sym, ap, ◌∙◌, le-leb, ltb-true, ltb-false}
 use Rattle.std.proofs.lemmas.Bool.{lt-leb}
 use Rattle.laws.specs.Pick.{pick}
-use Rattle.framing.specs.Frame.{frame_of, size_of}
-use Rattle.framing.specs.laws.FrameLaws.{size_within}
+use Rattle.framing.specs.Frame.{frame_of}
 use Rattle.framing.specs.declared.frame.Frame.{Frame}
 use Rattle.framing.specs.declared.frame.Frame.TheVariants as frame
 use Rattle.chip.specs.Sheet.{fresh_sheet}
 use Rattle.mirror.specs.Answer.{number_of}
 use Rattle.mirror.specs.Answers.{clocked}
 use Rattle.mirror.specs.Words.{free, is_good, done, joined_of}
-use Rattle.mirror.specs.engine.Live.{recorded_of}
 use Rattle.mirror.specs.engine.Record.{recorded, read_as, went, transferred, answered}
 use Rattle.mirror.specs.engine.Way.{Way, way_of}
-use Rattle.mirror.specs.laws.RunLaws.{answered_used}
 use Rattle.mirror.specs.laws.TableLaws.{answered_row}
 use Rattle.mirror.specs.declared.answer.Answer.TheVariants as say
-use Rattle.mirror.specs.declared.live.Live.{Live}
 use Rattle.mirror.specs.declared.panel.Panel.{Panel}
-use Rattle.mirror.specs.declared.panel.Times.{Times}
 use Rattle.mirror.specs.declared.record.Recorded.{Recorded}
 use Rattle.wall.specs.Watch.{later_than}
 use Rattle.wall.specs.engine.Watch.{later_by}
@@ -74,10 +69,3 @@ by_frame until p (frame.Reset time) =
 
 pub later_told : (until : ℕ) (p : Panel) (log : List ℕ) → later_by until p.last (frame_of log) ≡ later_than until p log
 later_told until p log = by_frame until p (frame_of log) ∙ ap (ends_by until) (answered_row p log)
-
--- a record that is read stands within the bytes that it is read from
-pub read_within : (rest : List ℕ) (used : ℕ) (k : Live) (times : Times) (d p : List ℕ) (q : Panel) →
-    recorded_of times k d p ≡ answered (frame_of rest) q → used ≡ k.used → used ≤ length rest
-read_within rest used k times d p q e u =
-    let n : k.used ≡ size_of (frame_of rest) = ap (λ (r : Recorded). r.used) e ∙ answered_used (frame_of rest) q in
-    omega (arith, u, n, size_within rest)
