@@ -31,7 +31,8 @@ pub struct Progress {
 }
 
 // Whether the line stands there now, and whether the print goes to a terminal too; the bytes that lie before the next read,
-// and the size of the file, where that is known; and the work after which the line is shown next.
+// and the size of the file, where that is known; and the work after which the line is shown next. The two flags are facts of a
+// line that is there: no value hangs on either.
 #[derive(Clone, Copy)]
 struct Line {
     stands: bool,
