@@ -12,7 +12,7 @@ use Rattle.mirror.specs.laws.NextLaws.{next_within}
 use Rattle.mirror.specs.Stream.{StreamNext, is_refused, next_of, rested_of, waiting_bytes}
 use Rattle.mirror.specs.Table.{row_for}
 use Rattle.mirror.specs.declared.stream.Stream.{Stream}
-use Rattle.mirror.specs.declared.stream.Verdict.{Verdict}
+use Rattle.mirror.specs.declared.answer.Verdict.{Verdict}
 use Rattle.mirror.specs.declared.stream.Reply.TheVariants.{Answered, More, Cut, Refused}
 
 module _ (st : Stream) (part : List ℕ) where
