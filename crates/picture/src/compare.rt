@@ -17,6 +17,7 @@ pub fn compare(chip: u8, a: &[u8], b: &[u8]) -> Result<Option<Dot>, Refusal>
     let one = Glass::of(chip, a)?;
     let other = Glass::of(chip, b)?;
     let mut found = None;
+    // A loop within a loop, left by a label: a form that the rules name.
     'rows: for row in 0..rows(chip) {
         for column in 0..COLUMNS {
             let at = Dot { row, column };

@@ -31,6 +31,7 @@ pub fn pattern(memory: [u8; PATTERN_SIZE], number: u8) -> [u8; TALL]
 }
 
 // Four calls and no from_fn: that would count in usize, and the number is a byte.
+// All four, named: a closure over their numbers would have to narrow each.
 pub fn patterns(memory: [u8; PATTERN_SIZE]) -> [[u8; TALL]; PATTERNS]
     ensures { result ≡ patterns_of memory }
 {
