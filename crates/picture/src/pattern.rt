@@ -30,7 +30,6 @@ pub fn pattern(memory: [u8; PATTERN_SIZE], number: u8) -> [u8; TALL]
     array::from_fn(|row| PatternAddress((first + row) as u8).read(&memory))
 }
 
-// Four calls and no from_fn: that would count in usize, and the number is a byte.
 // All four, named: a closure over their numbers would have to narrow each.
 pub fn patterns(memory: [u8; PATTERN_SIZE]) -> [[u8; TALL]; PATTERNS]
     ensures { result ≡ patterns_of memory }

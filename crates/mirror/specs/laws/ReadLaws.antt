@@ -45,9 +45,12 @@ abbrev pub Left : Type 0
 Left = Reading × List ℕ × List ℕ × List ℕ
 
 abbrev read_back : Recorded → Totals → Left
-read_back r t =
-    (record { live = live_of r.panel; outcome = record { verdict = verdict r.answer r.byte; used = r.used }; records = t.records },
-    r.panel.sheet.display, r.panel.sheet.pattern, t.counts)
+read_back r t = (
+  record { live = live_of r.panel; outcome = record { verdict = verdict r.answer r.byte; used = r.used }; records = t.records },
+  r.panel.sheet.display,
+  r.panel.sheet.pattern,
+  t.counts,
+)
 
 module _ (o : Reading) (log d p c : List ℕ) (r s : Reading) (d' p' c' d'' p'' c'' : List ℕ) (a : Steps o log d p c r d' p' c') (b : Steps o log d p c s d'' p'' c'') where
   pub steps_answer : recorded_read r d' p' ≡ recorded_read s d'' p''
