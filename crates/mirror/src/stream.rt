@@ -125,6 +125,7 @@ impl Stream {
     }
 
     // The record that the bytes waiting and the part make whole.
+    #[tactic(auto, using(crate::specs::laws::StreamLaws::front_read))]
     pub fn front(self, part: &[u8]) -> Front
         ensures { result ≡ front_of self part.now }
     {
@@ -136,6 +137,7 @@ impl Stream {
     }
 
     // With these totals, and this tail unread.
+    #[tactic(auto, using(crate::specs::laws::StreamLaws::rested_wants, crate::specs::laws::StreamLaws::keeps_wanting))]
     fn rest(self, totals: Totals, tail: &[u8]) -> Stream
         ensures { result ≡ rested_of self totals tail.now }
     {
@@ -224,6 +226,7 @@ impl Stream {
     }
 
     // The bytes waiting, with just those of the part that make their record whole.
+    #[tactic(auto, using(crate::specs::laws::StreamLaws::gathers))]
     pub fn gathered(self, part: &[u8]) -> Filled
         ensures { result ≡ filled_of (waiting_bytes self) part.now }
     {
@@ -274,6 +277,7 @@ impl Stream {
 
 impl Panel {
     // A whole log.
+    #[tactic(auto, using(crate::specs::laws::NextLaws::runs, crate::specs::laws::StreamLaws::feed_run))]
     pub fn run(self, log: &[u8]) -> Run
         ensures { Runs self log.now result }
     {

@@ -211,6 +211,7 @@ impl Live {
     }
 
     // One record at the front of the log.
+    #[tactic(auto, using(crate::specs::laws::ActsLaws::in_time))]
     pub(crate) fn turn(
         &mut self,
         log: &[u8],

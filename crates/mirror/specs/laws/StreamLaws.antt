@@ -1,22 +1,23 @@
 -- Laws of the streaming form: feeding a, then b, is feeding a ++ b; feeding it all and ending is a run.
 use Rattle.std.specs.Prelude.{ℕ, ◌+◌, ◌-◌, ◌≤◌, ◌≡◌, Bool, not, ◌||◌, ◌&&◌, length, drop, replicate, ltb, Option}
 use Rattle.std.proofs.Math.Path.{refl, sym, ap}
-use Rattle.std.proofs.Common.{◌∙◌, arith, add-zero, length-append, length-drop, length-take, drop-drop, ltb-true, ltb-false, lt-ltb, le-ltb}
+use Rattle.std.proofs.Common.{◌∙◌, arith, add-zero, length-append, length-drop, length-take, drop-drop, ltb-true, ltb-false, lt-ltb, le-ltb, take_all, take}
 use Rattle.std.proofs.Math.Bool.{true, false}
 use mathlib.Core.List.{List, [], ◌∷◌, ◌++◌, append_assoc, append-nil}
 use Rattle.std.proofs.Math.Seq.{drop-append_seam}
 use Rattle.laws.specs.Pick.{pick}
 use Rattle.framing.specs.Frame.{frame_of, cut_at, wants_more, record_size}
-use Rattle.framing.specs.laws.CutLaws.{broken, cut_either, cut_one, none_want, broken_append, wants_cut}
+use Rattle.framing.specs.laws.CutLaws.{wants_few, broken, cut_either, cut_one, none_want, broken_append, wants_cut}
 use Rattle.framing.specs.Frames.{Pieces, frames, tail, joined}
 use Rattle.framing.specs.laws.FrontLaws.{uncut_front}
 use Rattle.framing.specs.laws.FrameLaws.{cut_frame, frame_cut}
 use Rattle.framing.specs.laws.FramesLaws.{frames_cut, tail_cut, tail_next, joined_frames, tail_is_cut, pieces_append, pieces_broken, record_first}
-use Rattle.framing.specs.Carry.{carried_of, carry_of, wanting_of, reach, topped_of, more, filled, filled_of}
+use Rattle.framing.specs.Carry.{carried_of, carry_of, wanting_of, reach, topped_of, more, filled, filled_of, room}
 use Rattle.framing.specs.laws.CarryLaws.{left, carried, fill_carried, wanting_wants, fill_wants, fill_broken, fill_frame, fill_front, fill_whole}
 use Rattle.framing.specs.Flaw.{flaw_of}
 use Rattle.framing.specs.declared.flaw.Flaw.{Flaw}
 use Rattle.framing.specs.declared.frame.Frame.{Frame}
+use Rattle.framing.specs.declared.carry.Carry.{Carry}
 use Rattle.framing.specs.declared.carry.Filled.{Filled}
 use Rattle.mirror.specs.Answer.{count_places}
 use Rattle.mirror.specs.Panel.{sound_panel}
@@ -243,6 +244,15 @@ feed_run p log = by (sound_panel p)
         ap end_of (fed false p log) ∙
         ap (λ r. record { panel = p; counts = replicate count_places 0; records = r; cut = false; refused = true })
         (onward_records (frames log) (started stand_in) 0 refl ∙ ap capped n)
+
+-- what is gathered with the bytes that wait
+pub gathers : (st : Stream) (part : List ℕ) (w : Carry) (f : Filled) → w ≡ carry_of (waiting_bytes st) → f ≡ filled_of (carried_of w) part →
+    f ≡ filled_of (waiting_bytes st) part
+gathers st part w f e g = g ∙ ap (λ x. filled_of (carried_of x) part) e ∙ ap (λ x. filled_of x part) (carried (waiting_bytes st))
+
+-- what wants more is kept whole
+pub keeps_wanting : (rest : List ℕ) → wants_more rest ≡ true → carry_of (take room rest) ≡ carry_of rest
+keeps_wanting rest w = ap carry_of (take_all room rest (omega (arith, wants_few rest w)))
 
 -- what `feed` has in hand once it has filled the carry: the bytes then carried, and how many of the part's they took
 pub record Fed (st : Stream) (part v : List ℕ) (taken : ℕ) : Type 0 where
