@@ -15,6 +15,7 @@ pub fn raise(n: u64) -> u64
 }
 
 // The count of an answer, raised.
+#[tactic(auto, unfolding(crate::specs::Run::tallied))]
 pub fn tally(counts: &mut [u64; COUNTS], answer: Answer)
     ensures { counts.new ≡ tallied counts.old answer }
 {

@@ -111,10 +111,7 @@ impl Stream {
     pub fn panel(self) -> Panel
         ensures { result ≡ panel_in self }
     {
-        match self.refused {
-            Some(given) => given,
-            None => self.totals.panel,
-        }
+        self.refused.unwrap_or(self.totals.panel)
     }
 
     // The number of the record that comes next, counted from 1.
@@ -159,6 +156,7 @@ impl Stream {
     }
 
     // A part of any size, empty too: the records that are then whole are answered.
+    #[tactic(auto, using(crate::specs::laws::ReadLaws::gathered_within))]
     pub fn feed(self, part: &[u8]) -> Stream
         ensures { result ≡ feed_of self part.now }
     {

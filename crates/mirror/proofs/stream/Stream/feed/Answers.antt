@@ -14,18 +14,6 @@ returns-then-first-eq0 c =
     let f = has_fed a.self a.part.now _ _ c.gathered-filled.ensures c.bytes-held.ensures in
     c.rest.ensures ∙ feed_stops f c.if-self.false _ c.consume-first.ensures c.if-first-eq0.true
 
-pub slice_bounds-consume-count : goal.slice_bounds-consume-count
-slice_bounds-consume-count c =
-    let a = c.args in
-    let f = has_fed a.self a.part.now _ _ c.gathered-filled.ensures c.bytes-held.ensures in
-    omega (arith, f.within)
-
-pub slice_bounds-consume-start : goal.slice_bounds-consume-start
-slice_bounds-consume-start c =
-    let a = c.args in
-    let f = has_fed a.self a.part.now _ _ c.gathered-filled.ensures c.bytes-held.ensures in
-    omega (arith, f.within)
-
 pub slice_bounds-rest-count : goal.slice_bounds-rest-count
 slice_bounds-rest-count c =
     let a = c.args in
