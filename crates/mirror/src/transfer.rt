@@ -34,11 +34,7 @@ impl Live {
             return None;
         }
         if self.registers.eight {
-            return if self.free(t.time) {
-                Some(t.data)
-            } else {
-                None
-            };
+            return self.free(t.time).then_some(t.data);
         }
         match self.half {
             Half::Waiting { rs, rw, nibble } if rs == t.rs && !rw => {
