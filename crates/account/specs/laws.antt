@@ -1,7 +1,5 @@
-pub mod AgainStateLaws
 pub mod RepeatsLaws
 pub mod AgainLaws
-pub mod PlacedLaws
 pub mod AccountLaws
 pub mod StandsLaws
 pub mod DataWritesLaws

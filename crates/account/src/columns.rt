@@ -16,10 +16,9 @@ pub enum What {
     Record,
 }
 
-// Its column `byte`: none, one half by its byte, or a byte that is whole or joined.
+// Its column `byte`: one half by its byte, or a byte that is whole or joined.
 #[derive(Clone, Copy)]
 pub enum Shown {
-    Nothing,
     Half(u8),
     Whole(u8),
 }
@@ -27,63 +26,75 @@ pub enum Shown {
 // What its column `meaning` is taken from.
 #[derive(Clone, Copy)]
 pub enum Meaning {
-    Nothing,
     Flaw(Flaw),
     TornBy(What),
     Character(u8),
     Instruction(u8),
 }
 
-// A line of the report. There is no second half where `second` is 0, and no time of a bad record.
+// A line of the report. A bad record has no time.
 #[derive(Clone, Copy)]
 pub struct Line {
     pub number: u64,
-    pub second: u64,
-    pub time: u64,
+    pub second: Option<u64>,
+    pub time: Option<u64>,
     pub answer: Answer,
     pub what: What,
-    pub byte: Shown,
-    pub meaning: Meaning,
+    pub byte: Option<Shown>,
+    pub meaning: Option<Meaning>,
 }
 
-// The line that a record brings, if it brings one.
+// A transfer, as its record has it.
 #[derive(Clone, Copy)]
-pub enum Lined {
-    Nothing,
-    Line(Line),
-}
-
-// A first half, and the number of its record.
-#[derive(Clone, Copy)]
-pub struct First {
-    pub number: u64,
+pub struct Transfer {
     pub time: u64,
     pub rs: bool,
     pub rw: bool,
     pub byte: u8,
 }
 
+// A first half, and the number of its record.
+#[derive(Clone, Copy)]
+pub struct First {
+    pub number: u64,
+    pub half: Transfer,
+}
+
 // A transfer that is complete: its record's number, that of its second half, its time and its byte.
 #[derive(Clone, Copy)]
 pub struct Begun {
     pub number: u64,
-    pub second: u64,
+    pub second: Option<u64>,
     pub time: u64,
     pub byte: u8,
 }
 
-impl What {
-    pub(crate) fn of(rs: bool, rw: bool) -> What
-        ensures { result ≡ what_of rs rw }
+impl Transfer {
+    pub(crate) fn what(self) -> What
+        ensures { result ≡ what_of self.rs self.rw }
     {
-        if rs {
-            if rw { What::DataRead } else { What::DataWrite }
-        } else {
-            if rw {
-                What::StatusRead
-            } else {
-                What::InstructionWrite
-            }
+        match (self.rs, self.rw) {
+            (false, false) => What::InstructionWrite,
+            (true, false) => What::DataWrite,
+            (false, true) => What::StatusRead,
+            (true, true) => What::DataRead,
+        }
+    }
+
+    // What is shown of a byte: nothing where it is read.
+    fn shown(self, byte: Shown) -> Option<Shown>
+        ensures { result ≡ shown_of self.rw byte }
+    {
+        if self.rw { None } else { Some(byte) }
+    }
+
+    fn meaning(self, byte: Option<Shown>) -> Option<Meaning>
+        ensures { result ≡ meaning_of self.rs byte }
+    {
+        match byte {
+            Some(Shown::Whole(b)) if self.rs => Some(Meaning::Character(b)),
+            Some(Shown::Whole(b)) => Some(Meaning::Instruction(b)),
+            Some(Shown::Half(_)) | None => None,
         }
     }
 }
@@ -99,61 +110,42 @@ impl Shown {
             Shown::Half(byte)
         }
     }
-
-    // A read has none.
-    pub(crate) fn of(rw: bool, byte: Shown) -> Shown
-        ensures { result ≡ shown_of rw byte }
-    {
-        if rw { Shown::Nothing } else { byte }
-    }
-}
-
-impl Meaning {
-    pub(crate) fn of(rs: bool, byte: Shown) -> Meaning
-        ensures { result ≡ meaning_of rs byte }
-    {
-        match byte {
-            Shown::Nothing => Meaning::Nothing,
-            Shown::Half(_) => Meaning::Nothing,
-            Shown::Whole(b) => {
-                if rs {
-                    Meaning::Character(b)
-                } else {
-                    Meaning::Instruction(b)
-                }
-            }
-        }
-    }
 }
 
 impl Line {
     // A transfer with its byte.
-    pub(crate) fn with_byte(rs: bool, rw: bool, byte: Shown, answer: Answer, begun: Begun) -> Line
-        ensures { result ≡ line_with rs rw byte answer begun }
+    pub(crate) fn with_byte(sent: Transfer, byte: Shown, answer: Answer, begun: Begun) -> Line
+        ensures { result ≡ line_with sent byte answer begun }
     {
-        let shown = Shown::of(rw, byte);
+        let shown = sent.shown(byte);
         Line {
             number: begun.number,
             second: begun.second,
-            time: begun.time,
+            time: Some(begun.time),
             answer,
-            what: What::of(rs, rw),
+            what: sent.what(),
             byte: shown,
-            meaning: Meaning::of(rs, shown),
+            meaning: sent.meaning(shown),
         }
     }
 
     // A first half without its second: torn, or never finished.
-    pub(crate) fn alone(second: u64, answer: Answer, meaning: Meaning, first: First) -> Line
+    pub(crate) fn alone(
+        second: Option<u64>,
+        answer: Answer,
+        meaning: Option<Meaning>,
+        first: First,
+    ) -> Line
         ensures { result ≡ alone_line second answer meaning first }
     {
+        let half = first.half;
         Line {
             number: first.number,
             second,
-            time: first.time,
+            time: Some(half.time),
             answer,
-            what: What::of(first.rs, first.rw),
-            byte: Shown::of(first.rw, Shown::Half(first.byte)),
+            what: half.what(),
+            byte: half.shown(Shown::Half(half.byte)),
             meaning,
         }
     }
@@ -161,20 +153,20 @@ impl Line {
     // A record that is no transfer.
     pub(crate) fn plain(
         number: u64,
-        time: u64,
+        time: Option<u64>,
         answer: Answer,
         what: What,
-        meaning: Meaning,
+        meaning: Option<Meaning>,
     ) -> Line
         ensures { result ≡ plain_line number time answer what meaning }
     {
         Line {
             number,
-            second: 0,
+            second: None,
             time,
             answer,
             what,
-            byte: Shown::Nothing,
+            byte: None,
             meaning,
         }
     }

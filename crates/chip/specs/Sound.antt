@@ -1,8 +1,9 @@
 -- The sheet's part of soundness (document 01, "The panel"; of the chip and the bits of the written places, document 02, wishes 1 and 3).
-use Rattle.std.specs.Prelude.{ℕ, Bool, true, false, not, List, [], ◌∷◌, drop, ltb, leb, eqb}
+use Rattle.std.specs.Prelude.{ℕ, Bool, false, not, List, drop, ltb, leb, eqb}
+use Rattle.std.specs.List.{list_all}
 use Rattle.laws.specs.Pick.{pick}
-use Rattle.chip.specs.Sizes.{is_known, places_of, positions, display_size, pattern_size, row_end, function_end}
-use Rattle.chip.specs.Written.{unblank, written_in}
+use Rattle.chip.specs.Sizes.{is_known, places_of, positions, display_size, pattern_size, row_end, function_end, space}
+use Rattle.chip.specs.Written.{written_in}
 use Rattle.chip.specs.declared.address.Address.{Address}
 use Rattle.chip.specs.declared.address.Address.TheVariants.{Display, Pattern}
 use Rattle.chip.specs.declared.sheet.Sheet.{Sheet}
@@ -12,22 +13,13 @@ abbrev pub address_fits : ℕ → Address → Bool
 address_fits chip (Display d) = ltb d.0 (places_of chip)
 address_fits chip (Pattern p) = ltb p.0 pattern_size
 
--- no number of a list has a fault
-unfoldable pub faultless : (ℕ → Bool) → List ℕ → Bool
-faultless fault [] = true
-faultless fault (x ∷ xs) = pick (fault x) false (faultless fault xs)
-
--- the fault of an entry that must have five bits
-abbrev pub six_bits : ℕ → Bool
-six_bits x = leb row_end x
-
 -- display memory past the chip's own places is 20h
 abbrev pub blank_past : ℕ → List ℕ → Bool
-blank_past chip memory = faultless unblank (drop (places_of chip) memory)
+blank_past chip memory = list_all (λ x. eqb x space) (drop (places_of chip) memory)
 
 -- every pattern entry has five bits
 abbrev pub pattern_fits : List ℕ → Bool
-pattern_fits entries = faultless six_bits entries
+pattern_fits entries = list_all (λ x. ltb x row_end) entries
 
 -- the chip is known; address, shift, Function Set bits and pattern entries lie in range; display memory past the chip's own is 20h;
 -- the bits of the written places are the walk's answer

@@ -1,7 +1,8 @@
 // The two counts. A display address and a pattern address are numbers of their own types, and these are the only
 // functions that index a memory.
-ghost use Rattle.std.specs.Prelude.{◌≡◌, ◌<◌, ◌≤◌};
+ghost use Rattle.std.specs.Prelude.{◌≡◌, ◌%◌, ◌<◌, ◌≤◌};
 ghost use Rattle.laws.specs.Ring.{moved};
+ghost use Rattle.chip.specs.Sizes.{places_of, pattern_size};
 ghost use Rattle.chip.specs.Address.{moved_display, moved_pattern, moved_address, in_display, read_display, written_display, read_pattern, written_pattern, address_number};
 
 use crate::sizes::{DISPLAY_SIZE, PATTERN_SIZE, ROW_END, places};
@@ -39,22 +40,29 @@ impl DisplayAddress {
         DisplayAddress(step_round(self.0, places(chip), up))
     }
 
+    // Its place in display memory: it counts round the places that the chip has.
+    pub(crate) fn place(self, chip: u8) -> usize
+        ensures { result ≡ self.0 % places_of chip }
+    {
+        self.0 as usize % places(chip)
+    }
+
     // What display memory holds at this address.
     pub fn read(self, chip: u8, display: &[u8; DISPLAY_SIZE]) -> u8
         ensures { result ≡ read_display chip self display.now }
     {
-        let i = self.0 as usize % places(chip);
-        display[i]
+        display[self.place(chip)]
     }
 
     pub fn write(self, chip: u8, byte: u8, display: &mut [u8; DISPLAY_SIZE])
         ensures { display.new ≡ written_display chip self byte display.old }
     {
-        let i = self.0 as usize % places(chip);
-        display[i] = byte;
+        display[self.place(chip)] = byte;
     }
 }
 
+// Beside a display address: its size is the same on every chip, and an entry keeps five bits of a byte. So no chip is asked
+// for, and a trait over both would be longer than these bodies of one line.
 impl PatternAddress {
     pub fn moved(self, up: bool) -> PatternAddress
         ensures { result ≡ moved_pattern up self }
@@ -62,19 +70,24 @@ impl PatternAddress {
         PatternAddress(step_round(self.0, PATTERN_SIZE, up))
     }
 
+    // Its place in pattern memory.
+    pub(crate) fn place(self) -> usize
+        ensures { result ≡ self.0 % pattern_size }
+    {
+        self.0 as usize % PATTERN_SIZE
+    }
+
     // What pattern memory holds at this address: five bits.
     pub fn read(self, pattern: &[u8; PATTERN_SIZE]) -> u8
         ensures { result ≡ read_pattern self pattern.now }
     {
-        let i = self.0 as usize % PATTERN_SIZE;
-        pattern[i] % ROW_END
+        pattern[self.place()] % ROW_END
     }
 
     pub fn write(self, byte: u8, pattern: &mut [u8; PATTERN_SIZE])
         ensures { pattern.new ≡ written_pattern self byte pattern.old }
     {
-        let i = self.0 as usize % PATTERN_SIZE;
-        pattern[i] = byte % ROW_END;
+        pattern[self.place()] = byte % ROW_END;
     }
 }
 
@@ -84,8 +97,8 @@ impl Address {
         ensures { result ≡ address_number chip self }
     {
         match self {
-            Address::Display(d) => (d.0 as usize % places(chip)) as u8,
-            Address::Pattern(p) => (p.0 as usize % PATTERN_SIZE) as u8,
+            Address::Display(d) => d.place(chip) as u8,
+            Address::Pattern(p) => p.place() as u8,
         }
     }
 
@@ -93,10 +106,7 @@ impl Address {
     pub fn in_display(self) -> bool
         ensures { result ≡ in_display self }
     {
-        match self {
-            Address::Display(_) => true,
-            Address::Pattern(_) => false,
-        }
+        matches!(self, Address::Display(_))
     }
 
     pub fn moved(self, chip: u8, up: bool) -> Address

@@ -7,6 +7,7 @@ use crate::sizes::{FUNCTION_END, PATTERN_SIZE, places};
 
 #[derive(Clone, Copy)]
 pub enum Instruction {
+    // 00h, a code like any other: it is carried out, and leaves the sheet as it is.
     Nothing,
     Clear,
     Home,
@@ -25,7 +26,7 @@ pub enum Instruction {
 pub fn decode(chip: u8, code: u8) -> Instruction
     ensures { result ≡ decoded chip code }
 {
-    let bit0 = code / 1 % 2 == 1;
+    let bit0 = code % 2 == 1;
     let bit1 = code / 2 % 2 == 1;
     let bit2 = code / 4 % 2 == 1;
     let bit4 = code / 0x10 % 2 == 1;
@@ -43,9 +44,7 @@ pub fn decode(chip: u8, code: u8) -> Instruction
             blink: bit0,
         },
         0x10..=0x17 => Instruction::Move { up: bit2 },
-        0x18..=0x1F => Instruction::Shift {
-            left: code / 4 % 2 == 0,
-        },
+        0x18..=0x1F => Instruction::Shift { left: !bit2 },
         0x20..=0x3F => Instruction::Function {
             eight: bit4,
             bits: code % FUNCTION_END,

@@ -1,12 +1,13 @@
 // The steps. Each is a method on the registers by value that is lent the memory it touches, so that nothing large is
-// copied; together with the memories as they then stand, the answer is the meaning's step of the whole sheet.
+// copied; together with the memories as they then stand, the answer is the meaning's step of the whole sheet. The memories are
+// two arguments and no struct: most steps are lent display memory alone, and so cannot touch pattern memory.
 ghost use Rattle.std.specs.Prelude.{◌≡◌};
 ghost use Rattle.chip.specs.Sheet.{Starts, Steps, StepsDisplay, StepsBoth, fresh_sheet, read_here};
 ghost use Rattle.chip.specs.Step.{cleared, homed, entered, screen_set, stepped, shifted, function_set, address_set, next_good, marked_at, followed, written, passed, acted, obeyed};
 
 use crate::address::{Address, DisplayAddress, step_round};
 use crate::instruction::{Instruction, decode};
-use crate::sizes::{DISPLAY_SIZE, PATTERN_SIZE, POSITIONS, SPACE, places};
+use crate::sizes::{DISPLAY_SIZE, PATTERN_SIZE, POSITIONS, SPACE};
 use crate::written::with_bit;
 
 // All of the sheet but its memories.
@@ -61,19 +62,14 @@ impl Registers {
         }
     }
 
-    pub fn clear(self, display: &mut [u8; DISPLAY_SIZE]) -> Registers
+    // Home, with I/D set and no place written; S stays.
+    pub fn clear(mut self, display: &mut [u8; DISPLAY_SIZE]) -> Registers
         ensures { StepsDisplay cleared self display.old result display.new }
     {
         *display = [SPACE; DISPLAY_SIZE];
-        let written = 0;
-        Registers {
-            address: Address::Display(DisplayAddress(0)),
-            shift: 0,
-            up: true,
-            follow: self.follow,
-            written,
-            ..self
-        }
+        self.up = true;
+        self.written = 0;
+        self.home()
     }
 
     pub fn home(self) -> Registers
@@ -107,9 +103,8 @@ impl Registers {
     pub fn step(self, up: bool) -> Registers
         ensures { Steps (stepped up) self result }
     {
-        let a = self.address;
         Registers {
-            address: a.moved(self.chip, up),
+            address: self.address.moved(self.chip, up),
             ..self
         }
     }
@@ -150,7 +145,6 @@ impl Registers {
     pub fn act(self, i: Instruction, display: &mut [u8; DISPLAY_SIZE]) -> Registers
         ensures { StepsDisplay (acted i) self display.old result display.new }
     {
-        let here = self.address;
         match i {
             Instruction::Nothing => self,
             Instruction::Clear => self.clear(display).next_good(false),
@@ -159,7 +153,7 @@ impl Registers {
             Instruction::Screen { on, cursor, blink } => {
                 self.screen(on, cursor, blink).next_good(false)
             }
-            Instruction::Move { up } => self.step(up).next_good(here.in_display()),
+            Instruction::Move { up } => self.step(up).next_good(self.address.in_display()),
             Instruction::Shift { left } => self.shift_by_one(left),
             Instruction::Function { eight, bits } => {
                 self.function_set(eight, bits).next_good(false)
@@ -179,8 +173,7 @@ impl Registers {
     pub fn here(self, display: &[u8; DISPLAY_SIZE], pattern: &[u8; PATTERN_SIZE]) -> u8
         ensures { result ≡ read_here self display.now pattern.now }
     {
-        let a = self.address;
-        match a {
+        match self.address {
             Address::Display(d) => d.read(self.chip, display),
             Address::Pattern(p) => p.read(pattern),
         }
@@ -208,10 +201,9 @@ impl Registers {
     fn mark(self, at: DisplayAddress, display: &[u8; DISPLAY_SIZE]) -> Registers
         ensures { Steps (marked_at at display.now) self result }
     {
-        let place = at.0 as usize % places(self.chip);
-        let byte = at.read(self.chip, display);
+        let set = at.read(self.chip, display) != SPACE;
         Registers {
-            written: with_bit(self.written, place, byte != SPACE),
+            written: with_bit(self.written, at.place(self.chip), set),
             ..self
         }
     }
@@ -225,9 +217,8 @@ impl Registers {
     ) -> Registers
         ensures { StepsBoth (written byte) self display.old pattern.old result display.new pattern.new }
     {
-        let a = self.address;
         let moved = self.step(self.up).next_good(false);
-        match a {
+        match self.address {
             Address::Display(d) => {
                 d.write(self.chip, byte, display);
                 moved.mark(d, display).followed(self.follow)

@@ -8,7 +8,7 @@ use crate::registers::Registers;
 use crate::sizes::{
     DISPLAY_SIZE, FUNCTION_END, PATTERN_SIZE, POSITIONS, ROW_END, SPACE, known, places,
 };
-use crate::written::agree;
+use crate::written::written_in;
 
 #[derive(Clone, Copy)]
 pub struct Sheet {
@@ -33,28 +33,14 @@ impl Address {
 pub fn blank_past(chip: u8, display: [u8; DISPLAY_SIZE]) -> bool
     ensures { result ≡ blank_past chip display }
 {
-    let mut i = places(chip);
-    while i < DISPLAY_SIZE {
-        if display[i] != SPACE {
-            return false;
-        }
-        i += 1;
-    }
-    true
+    display.iter().skip(places(chip)).all(|&byte| byte == SPACE)
 }
 
 // Whether every entry has five bits.
 pub fn pattern_fits(pattern: [u8; PATTERN_SIZE]) -> bool
     ensures { result ≡ pattern_fits pattern }
 {
-    let mut i = 0;
-    while i < PATTERN_SIZE {
-        if ROW_END <= pattern[i] {
-            return false;
-        }
-        i += 1;
-    }
-    true
+    pattern.iter().all(|&row| row < ROW_END)
 }
 
 impl Sheet {
@@ -75,27 +61,12 @@ impl Sheet {
         ensures { result ≡ sound_sheet self }
     {
         let r = self.registers;
-        let a = r.address;
-        let display = self.display;
-        let pattern = self.pattern;
-        if !known(r.chip) {
-            return false;
-        }
-        if !a.fits(r.chip) {
-            return false;
-        }
-        if POSITIONS <= r.shift as usize {
-            return false;
-        }
-        if FUNCTION_END <= r.function {
-            return false;
-        }
-        if !blank_past(r.chip, display) {
-            return false;
-        }
-        if !agree(r.written, display) {
-            return false;
-        }
-        pattern_fits(pattern)
+        known(r.chip)
+            && r.address.fits(r.chip)
+            && (r.shift as usize) < POSITIONS
+            && r.function < FUNCTION_END
+            && blank_past(r.chip, self.display)
+            && r.written == written_in(self.display)
+            && pattern_fits(self.pattern)
     }
 }

@@ -2,7 +2,8 @@
 ghost use Rattle.std.specs.Prelude.{◌≡◌};
 ghost use Rattle.chip.specs.Sizes.{is_known, lines_of, Places};
 
-// The NJU6631A, of one line, and the NJU6635, of two.
+// The NJU6631A, of one line, and the NJU6635, of two. A chip is a number and no enum: a panel of any other number can be made,
+// and is refused.
 pub const ONE_LINE: u8 = 31;
 
 pub const TWO_LINES: u8 = 35;
@@ -30,10 +31,7 @@ pub const SPACE: u8 = 0x20;
 pub fn known(chip: u8) -> bool
     ensures { result ≡ is_known chip }
 {
-    if chip == ONE_LINE {
-        return true;
-    }
-    chip == TWO_LINES
+    matches!(chip, ONE_LINE | TWO_LINES)
 }
 
 // How many lines a chip shows; one that is not known counts as one line.

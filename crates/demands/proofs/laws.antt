@@ -10,6 +10,7 @@ pub mod CountsLaws
 pub mod UnknownLaws
 pub mod UniqueChip
 pub mod UniqueDesk
+pub mod UniqueBuffer
 pub mod UniqueLog
 pub mod UniqueMirror
 pub mod UniquePicture

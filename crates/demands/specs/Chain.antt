@@ -5,11 +5,10 @@ use Rattle.framing.specs.Frames.{joined}
 use Rattle.mirror.specs.Panel.{fresh_panel}
 use Rattle.mirror.specs.Table.{record_of}
 use Rattle.mirror.specs.Answers.{Typed}
-use Rattle.mirror.specs.Stream.{start_of, panel_in, feed_of, next_of, end_of, run_of}
+use Rattle.mirror.specs.Stream.{StreamReply, start_of, panel_in, feed_of, next_of, end_of, run_of}
 use Rattle.mirror.specs.declared.panel.Panel.{Panel}
 use Rattle.mirror.specs.declared.stream.Stream.{Stream}
 use Rattle.mirror.specs.declared.stream.Reply.TheVariants as next
-use Rattle.mirror.specs.declared.stream.Reply.{Reply}
 use Rattle.striking.specs.Machine.{Answered}
 use Rattle.demands.specs.Mirrors.{Response, out_of, ours}
 use Rattle.demands.specs.Answers.{answers_by, panel_by, OfRun}
@@ -35,8 +34,8 @@ left_of (suc n) p s =
     pick (eqb r.used 0) p (left_of n r.panel (drop r.used s))
 
 -- BY `next`: what a reply tells
-abbrev pub tells : Reply → List Response
-tells (next.Answered answer byte) = record { answer = answer; byte = byte } ∷ []
+abbrev pub tells : StreamReply → List Response
+tells (next.Answered v) = record { answer = v.answer; byte = v.byte } ∷ []
 tells next.More = []
 tells next.Cut = []
 tells next.Refused = []
@@ -45,7 +44,7 @@ tells next.Refused = []
 pub data Asked (p : Panel) : List ℕ → List Response → Stream → Type 0 where
   started : Asked p [] [] (start_of p)
   asked : {log : List ℕ} {replies : List Response} {st : Stream} → Asked p log replies st → (part : List ℕ) →
-      Asked p (log ++ take (next_of st part).taken part) (replies ++ tells (next_of st part).reply) (next_of st part).stream
+      Asked p (log ++ take (next_of st part).taken part) (replies ++ tells (next_of st part).reply) (next_of st part).after
   -- what comes after a cut is not taken any more
   ended : {log : List ℕ} {replies : List Response} {st : Stream} → Asked p log replies st → st.over ≡ true → (rest : List ℕ) → Asked p (log ++ rest) replies st
 

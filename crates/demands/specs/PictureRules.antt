@@ -3,10 +3,9 @@ use Rattle.std.specs.Prelude.{ℕ, ◌≡◌, Bool, true, List, length}
 use Rattle.dots.specs.Landing.{count_of}
 use Rattle.mirror.specs.Panel.{sound_panel}
 use Rattle.mirror.specs.declared.panel.Panel.{Panel}
-use Rattle.picture.specs.Paint.{paint_paper, glass_of}
+use Rattle.picture.specs.Paint.{Painted, paint_paper, glass_of}
 use Rattle.picture.specs.Pattern.{font_size}
 use Rattle.picture.specs.Picture.{lit}
-use Rattle.picture.specs.declared.paint.Painted.{Painted}
 
 -- what answers how many dots are lit
 abbrev pub Painter : Type 0

@@ -41,3 +41,18 @@ module _ {M : Type 1} (𝓤 : Ura M) (T : Ended) (c : Clauses 𝓤 T) where
       (c κs a).ensures g r e ≡ ⌜ r ≡ x κs a ⌝) →
       DeterminesAnswer
   equation x stated = answer (λ κs a r e. r ≡ x κs a) stated (λ κs a r s e f p q. p ∙ sym q)
+
+  -- of an answer that refers to something, what it refers to: `shown` picks that from the answer
+  pub record DeterminesShown {V : Type 0} (shown : (κs : Lifetimes) → Res T.signature κs → V) : Type 2 where
+    pub Says : (κs : Lifetimes) → Args T.signature κs → Res T.signature κs → AtExit T κs → Type 0
+    pub stated : (κs : Lifetimes) (a : Args T.signature κs) (g : (c κs a).ghost) (r : Res T.signature κs) (e : AtExit T κs) →
+        (c κs a).ensures g r e ≡ ⌜ Says κs a r e ⌝
+    pub one : (κs : Lifetimes) (a : Args T.signature κs) (r s : Res T.signature κs) (e f : AtExit T κs) →
+        Says κs a r e → Says κs a s f → shown κs r ≡ shown κs s
+
+  pub shown_equation : {V : Type 0} (shown : (κs : Lifetimes) → Res T.signature κs → V) (x : (κs : Lifetimes) → Args T.signature κs → V) →
+      ((κs : Lifetimes) (a : Args T.signature κs) (g : (c κs a).ghost) (r : Res T.signature κs) (e : AtExit T κs) →
+      (c κs a).ensures g r e ≡ ⌜ shown κs r ≡ x κs a ⌝) →
+      DeterminesShown shown
+  shown_equation shown x stated =
+      record { Says = λ κs a r e. shown κs r ≡ x κs a; stated = stated; one = λ κs a r s e f p q. p ∙ sym q }

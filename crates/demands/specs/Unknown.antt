@@ -26,7 +26,7 @@ pub record RefusedCalls (p : Panel) : Type 0 where
   pub left : (log : List ℕ) → (run_of p log).panel ≡ p
   pub fed : (log : List ℕ) → end_of (feed_of (start_of p) log) ≡ run_of p log
   -- by `next`: nothing is taken
-  pub nexts : (part : List ℕ) → next_of (start_of p) part ≡ record { stream = start_of p; taken = 0; reply = next.Refused }
+  pub nexts : (part : List ℕ) → next_of (start_of p) part ≡ record { after = start_of p; taken = 0; reply = next.Refused }
   -- by `paint`: no lit dots, and the frame stays
   pub paints : (font : List ℕ) (dark : Bool) (frame : List ℕ) → paint_paper (painted_of p font dark frame) ≡ record { number = some 10; dots = 0 }
   pub frames : (font : List ℕ) (dark : Bool) (frame : List ℕ) → frame_after p font dark frame ≡ frame

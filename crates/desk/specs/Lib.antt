@@ -1,9 +1,8 @@
-pub mod Bytes
 pub mod Chips
 pub mod Clock
 pub mod Number
 pub mod Page
-pub mod Reads
+pub mod Progress
 pub mod Times
 pub mod engine
 pub mod laws

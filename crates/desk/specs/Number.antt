@@ -1,13 +1,6 @@
 -- A number among the arguments: decimal digits alone, at least one, and at most the greatest that is taken.
-use Rattle.std.specs.Prelude.{ℕ, ◌+◌, ◌-◌, ◌*◌, Bool, true, false, not, List, [], ◌∷◌, nat_lt}
+use Rattle.std.specs.Prelude.{ℕ, ◌+◌, ◌-◌, ◌*◌, Bool, true, false, not, List, [], ◌∷◌, nat_lt, Option, Some, None}
 use Rattle.laws.specs.Pick.{pick}
-use Rattle.desk.specs.declared.number.Number.{Number}
-
-abbrev pub none : Number
-none = record { ok = false; value = 0 }
-
-abbrev pub some : ℕ → Number
-some n = record { ok = true; value = n }
 
 -- 0 to 9 are 48 to 57
 abbrev pub is_digit : ℕ → Bool
@@ -24,10 +17,10 @@ value_after v [] = v
 value_after v (b ∷ s) = value_after (10 * v + (b - 48)) s
 
 -- digits after a number, none where they pass the greatest
-abbrev pub number_after : ℕ → List ℕ → ℕ → Number
-number_after v s most = pick (all_digits s) (pick (nat_lt most (value_after v s)) none (some (value_after v s))) none
+abbrev pub number_after : ℕ → List ℕ → ℕ → Option ℕ
+number_after v s most = pick (all_digits s) (pick (nat_lt most (value_after v s)) None (Some (value_after v s))) None
 
 -- a word without a digit is no number
-unfoldable pub decimal_of : List ℕ → ℕ → Number
-decimal_of [] most = none
+unfoldable pub decimal_of : List ℕ → ℕ → Option ℕ
+decimal_of [] most = None
 decimal_of (b ∷ s) most = number_after 0 (b ∷ s) most

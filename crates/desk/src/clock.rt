@@ -1,10 +1,10 @@
-// Numbers and clocks, put on a page. Each function answers where the next byte goes.
-ghost use Rattle.std.specs.Prelude.{◌≡◌, ◌+◌, ◌%◌};
-ghost use Rattle.desk.specs.engine.Digits.{EndsIn};
+// Numbers and clocks, put on a page.
+ghost use Rattle.std.specs.Prelude.{◌≡◌, ◌/◌};
 ghost use Rattle.desk.specs.Clock.{Clock, Decimal, Hours, most_clock, most_digits, two_of, within_hour};
 ghost use Rattle.desk.specs.Page.{Puts, PutsHere, PutsSome};
 
-use crate::page::{PAGE, has_room, paste, put};
+use crate::page::Page;
+use itoa::Buffer;
 
 // Times are in millionths of a second.
 const SECOND: u64 = 1000000;
@@ -21,37 +21,6 @@ const WITHIN: usize = 13;
 
 const CLOCK: usize = DIGITS + WITHIN;
 
-// The digits of a number: those of the array from a place on.
-#[derive(Clone, Copy)]
-struct Digits {
-    bytes: [u8; DIGITS],
-    from: usize,
-}
-
-// The last digit of a number in decimal.
-fn digit(n: u64) -> u8
-    ensures { result ≡ 48 + n % 10 }
-{
-    48 + (n % 10) as u8
-}
-
-// A number in decimal, spelled from its last digit on.
-fn spelled(n: u64) -> Digits
-    ensures { EndsIn (Decimal n) result.bytes result.from }
-{
-    let mut bytes = [0u8; DIGITS];
-    let mut from: usize = DIGITS;
-    let mut rest = n;
-    while 9 < rest {
-        from -= 1;
-        bytes[from] = digit(rest);
-        rest = rest / 10;
-    }
-    from -= 1;
-    bytes[from] = digit(rest);
-    Digits { bytes, from }
-}
-
 // The last two digits of a number in decimal.
 fn two(n: u64) -> [u8; 2]
     ensures { result ≡ two_of n }
@@ -60,20 +29,6 @@ fn two(n: u64) -> [u8; 2]
         text::digit((n / 10 % 10) as u8),
         text::digit((n % 10) as u8),
     ]
-}
-
-// Hours: two digits, and more from 100 on.
-fn hours_of(hours: u64) -> Digits
-    ensures { EndsIn (Hours hours) result.bytes result.from }
-{
-    if hours < 100 {
-        let pair = two(hours);
-        let mut bytes = [0u8; DIGITS];
-        bytes[18] = pair[0];
-        bytes[19] = pair[1];
-        return Digits { bytes, from: 18 };
-    }
-    spelled(hours)
 }
 
 // Minutes, seconds and millionths of a time.
@@ -90,67 +45,50 @@ fn within_hour(time: u64) -> [u8; WITHIN]
     ]
 }
 
-// A number in decimal.
-pub fn put_number(page: &mut [u8; PAGE], at: usize, n: u64) -> usize
-    ensures { PutsSome (Decimal n) page.old at page.new result }
-{
-    let number = spelled(n);
-    let bytes = number.bytes;
-    let from = number.from;
-    put(page, at, &bytes[from..])
-}
-
-// Hours: two digits, and more from 100 on.
-fn put_hours(page: &mut [u8; PAGE], at: usize, hours: u64) -> usize
-    ensures { PutsSome (Hours hours) page.old at page.new result }
-{
-    let spelled = hours_of(hours);
-    let bytes = spelled.bytes;
-    let from = spelled.from;
-    put(page, at, &bytes[from..])
-}
-
-// Minutes, seconds and millionths, put as one.
-fn put_within(page: &mut [u8; PAGE], at: usize, time: u64) -> usize
-    ensures { Puts (within_hour time) page.old at page.new result }
-{
-    put(page, at, &within_hour(time))
-}
-
-// A time as hours, minutes, seconds and millionths.
-pub fn put_clock(page: &mut [u8; PAGE], at: usize, time: u64) -> usize
-    ensures { PutsSome (Clock time) page.old at page.new result }
-{
-    let a = put_hours(page, at, time / HOUR);
-    put_within(page, a, time)
-}
-
-// A number where the page has room for any number; else nothing.
-pub fn put_number_here(page: &mut [u8; PAGE], at: usize, n: u64) -> usize
-    ensures { PutsHere most_digits (Decimal n) page.old at page.new result }
-{
-    if has_room(at, DIGITS) {
-        let number = spelled(n);
-        let bytes = number.bytes;
-        let from = number.from;
-        paste(page, at, &bytes[from..]);
-        return at + DIGITS - from;
+impl Page {
+    // A number in decimal.
+    #[tactic(auto, using(crate::specs::laws::ClockLaws::puts_decimal))]
+    pub fn put_number(&mut self, n: u64)
+        ensures { PutsSome (Decimal n) self.old self.new }
+    {
+        self.put(Buffer::new().format(n).as_bytes());
     }
-    at
-}
 
-// A clock where the page has room for any clock; else nothing.
-pub fn put_clock_here(page: &mut [u8; PAGE], at: usize, time: u64) -> usize
-    ensures { PutsHere most_clock (Clock time) page.old at page.new result }
-{
-    if has_room(at, CLOCK) {
-        let hours = hours_of(time / HOUR);
-        let bytes = hours.bytes;
-        let from = hours.from;
-        paste(page, at, &bytes[from..]);
-        let a = at + DIGITS - from;
-        paste(page, a, &within_hour(time));
-        return a + WITHIN;
+    // Hours: two digits, and more from 100 on.
+    fn put_hours(&mut self, hours: u64)
+        ensures { PutsSome (Hours hours) self.old self.new }
+    {
+        if hours < 100 {
+            self.put(&two(hours));
+        } else {
+            self.put_number(hours);
+        }
     }
-    at
+
+    // A time as hours, minutes, seconds and millionths.
+    #[tactic(auto, using(crate::specs::laws::ClockLaws::clock_puts))]
+    pub fn put_clock(&mut self, time: u64)
+        ensures { PutsSome (Clock time) self.old self.new }
+    {
+        self.put_hours(time / HOUR);
+        self.put(&within_hour(time));
+    }
+
+    // A number where the page has room for any number; else nothing.
+    pub fn put_number_here(&mut self, n: u64)
+        ensures { PutsHere most_digits (Decimal n) self.old self.new }
+    {
+        if self.has_room(DIGITS) {
+            self.put_number(n);
+        }
+    }
+
+    // A clock where the page has room for any clock; else nothing.
+    pub fn put_clock_here(&mut self, time: u64)
+        ensures { PutsHere most_clock (Clock time) self.old self.new }
+    {
+        if self.has_room(CLOCK) {
+            self.put_clock(time);
+        }
+    }
 }

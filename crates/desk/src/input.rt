@@ -1,66 +1,58 @@
 // Standard input, block by block.
-ghost use Rattle.std.specs.Prelude.{◌≡◌, ◌-◌};
-ghost use Rattle.desk.specs.Reads.{Reads, unread};
+ghost use Rattle.std.specs.Prelude.{IfOk};
+ghost use Rattle.io.specs.Counts.{IsPrefixLen};
 
-use crate::print::fail;
+use crate::print::{Stopped, fail};
+use crate::progress::Progress;
 use std::io::Read;
 
 // The bytes that a program asks for at once. More makes no program faster, and each holds its block twice while it starts.
 pub const BLOCK: usize = 32768;
 
-// How many reads may follow, 0 after the last; how many bytes the last one brought; and whether it failed. A proved loop
-// has to end, and nothing says that an input does: so reads are counted down from a number that no run uses up.
-#[derive(Clone, Copy)]
-pub struct Input {
-    pub left: u64,
-    pub len: usize,
-    pub failed: bool,
-}
-
-// One less; 0 stays.
-fn fewer(left: u64) -> u64
-    ensures { result ≡ left - 1 }
+// Reads once, into the front of the block: how many bytes there came, 0 at the end. A failure writes a line.
+pub fn read_block(rt: &HostRuntime, block: &mut [u8]) -> Result<usize, Stopped>
+    ensures { IfOk result (λ n. IsPrefixLen n block.new) }
 {
-    if left == 0 {
-        return 0;
-    }
-    left - 1
+    rt.stdin()
+        .read(block)
+        .map_err(|error| fail(rt, b"standard input", error))
 }
 
-impl Input {
-    pub fn start() -> Input
-        ensures { result ≡ unread }
-    {
-        Input {
-            left: u64::MAX,
-            len: 0,
-            failed: false,
+// Hands over what each read brought, nothing at the end of the input, as long as more is wanted. A proved loop has to end, and
+// nothing says that an input does: there are more turns than a run uses up.
+fn hand_over<F: FnMut(&mut Progress, &[u8]) -> bool>(
+    rt: &HostRuntime,
+    name: &[u8],
+    progress: &mut Progress,
+    block: &mut [u8],
+    mut wants_more: F,
+) -> Result<(), Stopped>
+    requires { F.IsAlwaysCallable wants_more }
+{
+    for _ in 0..u64::MAX {
+        let read = read_block(rt, block);
+        progress.after(rt, name, read.unwrap_or(0));
+        let n = read?;
+        if !wants_more(progress, &block[..n]) || n == 0 {
+            break;
         }
     }
+    Ok(())
+}
 
-    // Reads once, into the front of the block. A failure writes a line.
-    pub fn read(self, rt: &HostRuntime, block: &mut [u8]) -> Input
-        ensures { Reads self block.new result }
-    {
-        let ended = Input {
-            left: 0,
-            len: 0,
-            failed: false,
-        };
-        match rt.stdin().read(block) {
-            Ok(0) => ended,
-            Ok(len) => Input {
-                left: fewer(self.left),
-                len,
-                failed: false,
-            },
-            Err(error) => {
-                fail(rt, b"standard input", error);
-                Input {
-                    failed: true,
-                    ..ended
-                }
-            }
-        }
-    }
+// Reads standard input block by block, and hands over what each read brought, nothing at its end: `wants_more` says whether it
+// wants more. The progress is shown all the while under the program's name, and taken away once all is read.
+pub fn each_block<F: FnMut(&mut Progress, &[u8]) -> bool>(
+    rt: &HostRuntime,
+    name: &[u8],
+    start: Progress,
+    block: &mut [u8],
+    wants_more: F,
+) -> Result<(), Stopped>
+    requires { F.IsAlwaysCallable wants_more }
+{
+    let mut progress = start;
+    let read = hand_over(rt, name, &mut progress, block, wants_more);
+    progress.clear();
+    read
 }

@@ -1,70 +1,41 @@
 // Decimal numbers among the arguments.
-ghost use Rattle.std.specs.Prelude.{◌≡◌, ◌≤◌};
+ghost use Rattle.std.specs.Prelude.{◌≡◌, ◌≤◌, IfSome};
 ghost use Rattle.desk.specs.Number.{decimal_of};
 ghost use Rattle.desk.specs.engine.Number.{then_of};
 
 use crate::arguments::argument;
 
-// A number; not ok where there is none, and then its value is 0.
-#[derive(Clone, Copy)]
-pub struct Number {
-    pub ok: bool,
-    pub value: u64,
-}
-
-const NONE: Number = Number {
-    ok: false,
-    value: 0,
-};
-
 // The number after one more digit; none where it is no digit, or where the number passes `most`.
-fn then(value: u64, digit: u8, most: u64) -> Number
+fn then(value: u64, digit: u8, most: u64) -> Option<u64>
     ensures { result ≡ then_of value digit most }
 {
-    if digit < 48 {
-        return NONE;
+    if !digit.is_ascii_digit() {
+        return None;
     }
-    if 57 < digit {
-        return NONE;
-    }
-    let ones = (digit - 48) as u64;
-    if most < ones {
-        return NONE;
-    }
-    if (most - ones) / 10 < value {
-        return NONE;
-    }
-    Number {
-        ok: true,
-        value: 10 * value + ones,
-    }
+    let ones = u64::from(digit - b'0');
+    let next = value.checked_mul(10)?.checked_add(ones)?;
+    if next <= most { Some(next) } else { None }
 }
 
 // The number that a word writes: decimal digits alone, at least one, and at most `most`.
-pub fn number_of(word: &[u8], most: u64) -> Number
+#[tactic(auto, using(crate::specs::laws::NumberLaws::read))]
+pub fn number_of(word: &[u8], most: u64) -> Option<u64>
     ensures { result ≡ decimal_of word.now most }
 {
-    if word.len() == 0 {
-        return NONE;
+    if word.is_empty() {
+        return None;
     }
-    let mut value: u64 = 0;
-    let mut i: usize = 0;
-    while i < word.len() {
-        let next = then(value, word[i], most);
-        if !next.ok {
-            return NONE;
-        }
-        value = next.value;
-        i += 1;
+    let mut value = 0;
+    for digit in word {
+        value = then(value, *digit, most)?;
     }
-    Number { ok: true, value }
+    Some(value)
 }
 
 // The number that the argument at a place writes.
-pub fn number_at(rt: &HostRuntime, place: usize, most: u64) -> Number
-    ensures { result.value ≤ most }
+#[tactic(auto, using(crate::specs::laws::NumberLaws::bounded))]
+pub fn number_at(rt: &HostRuntime, place: usize, most: u64) -> Option<u64>
+    ensures { IfSome result (λ n. n ≤ most) }
 {
-    let mut word = io::buffer();
-    let n = argument(rt, place, &mut word);
-    number_of(&word[..n], most)
+    number_of(argument(rt, place).as_slice(), most)
 }

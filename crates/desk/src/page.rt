@@ -1,110 +1,106 @@
-// What is to be written, gathered on a page that is written out whenever it is full. Each function answers where the next
-// byte goes.
+// What is to be written, gathered on a page that is written out whenever it is full.
 ghost use Rattle.std.specs.Prelude.{◌≡◌, ◌+◌, ◌≤◌, [], ◌∷◌, length, nat_le};
-ghost use Rattle.desk.specs.Page.{page_size, place_with_room, Puts, PutsHere};
-ghost use Rattle.desk.specs.engine.Page.{Placed};
+ghost use Rattle.desk.specs.Page.{Puts, PutsHere, blank_page, page_size, printed, with_room};
 
-use crate::bytes::held;
 use crate::print::show;
 
 pub const PAGE: usize = 4096;
 
-// Where there is room for a byte: at the front, once a full page was written out.
-fn room(page: &[u8; PAGE], at: usize) -> usize
-    ensures { Placed at result }
-{
-    if PAGE <= at {
-        show(page);
-        return 0;
-    }
-    at
+// What is to be written are the first `end` bytes, or all where that says more. It is no buffer, since what is full there stays
+// full, and a full page goes on at its front.
+#[derive(Clone, Copy)]
+pub struct Page {
+    pub bytes: [u8; PAGE],
+    pub end: usize,
 }
 
-fn put_byte(page: &mut [u8; PAGE], at: usize, byte: u8) -> usize
-    ensures { Puts (byte ∷ []) page.old at page.new result }
-{
-    let n = room(page, at);
-    page[n] = byte;
-    n + 1
-}
-
-// Puts bytes one after another, each where there is room.
-fn put_each(page: &mut [u8; PAGE], at: usize, bytes: &[u8]) -> usize
-    ensures { Puts bytes.now page.old at page.new result }
-{
-    let mut end = at;
-    let mut i: usize = 0;
-    while i < bytes.len() {
-        end = put_byte(page, end, bytes[i]);
-        i += 1;
-    }
-    end
-}
-
-// Puts bytes that the page has room for.
-pub(crate) fn paste(page: &mut [u8; PAGE], at: usize, bytes: &[u8])
-    requires { at + length bytes.now ≤ page_size }
-    ensures { Puts bytes.now page.old at page.new (at + length bytes.now) }
-{
-    let mut i: usize = 0;
-    while i < bytes.len() {
-        page[at + i] = bytes[i];
-        i += 1;
-    }
-}
-
-// Whether a page has room for so many bytes from a place on.
-pub(crate) fn has_room(at: usize, size: usize) -> bool
-    ensures { result ≡ nat_le (at + size) page_size }
-{
-    if PAGE < at {
-        return false;
-    }
-    if PAGE - at < size {
-        return false;
-    }
-    true
-}
-
-// Puts bytes one after another from a place on. Nearly always there is room for all of them, and they are copied as one.
-pub fn put(page: &mut [u8; PAGE], at: usize, bytes: &[u8]) -> usize
-    ensures { Puts bytes.now page.old at page.new result }
-{
-    if at < PAGE {
-        if bytes.len() <= PAGE - at {
-            paste(page, at, bytes);
-            return at + bytes.len();
+impl Page {
+    pub fn blank() -> Page
+        ensures { result ≡ blank_page }
+    {
+        Page {
+            bytes: [0; PAGE],
+            end: 0,
         }
     }
-    put_each(page, at, bytes)
-}
 
-// Where so many bytes go: here, if the page has room for all of them, and otherwise at the front, once it was written out.
-pub fn room_for(page: &[u8; PAGE], at: usize, size: usize) -> usize
-    ensures { result ≡ place_with_room size at }
-{
-    if has_room(at, size) {
-        return at;
+    pub fn as_slice(&self) -> &[u8]
+        ensures { result.now ≡ printed self.now }
+    {
+        &self.bytes[..self.end.min(PAGE)]
     }
-    write_out(page, at);
-    0
-}
 
-// Puts bytes where the page has room for all of them; else nothing. There is no write in it: what is put is told before the
-// room is made for it, by `room_for`.
-pub fn put_here(page: &mut [u8; PAGE], at: usize, bytes: &[u8]) -> usize
-    ensures { PutsHere (length bytes.now) (λ s. s ≡ bytes.now) page.old at page.new result }
-{
-    if has_room(at, bytes.len()) {
-        paste(page, at, bytes);
-        return at + bytes.len();
+    // Writes out what is on the page, which stays as it is.
+    pub fn write_out(&self) {
+        show(self.as_slice());
     }
-    at
-}
 
-// Writes out what is on the page.
-pub fn write_out(page: &[u8; PAGE], at: usize) {
-    let all: &[u8] = page;
-    let n = held(all, at);
-    show(&all[..n]);
+    // Whether there is room for so many bytes.
+    pub(crate) fn has_room(&self, size: usize) -> bool
+        ensures { result ≡ nat_le (self.now.end + size) page_size }
+    {
+        self.end.saturating_add(size) <= PAGE
+    }
+
+    // Makes room for so many bytes: where there is none, what is on the page is written out, and the next byte goes to the
+    // front.
+    pub fn make_room(&mut self, size: usize)
+        ensures { self.new ≡ with_room size self.old }
+    {
+        if !self.has_room(size) {
+            self.write_out();
+            self.end = 0;
+        }
+    }
+
+    #[tactic(auto, using(crate::specs::laws::PageLaws::puts_byte))]
+    fn put_byte(&mut self, byte: u8)
+        ensures { Puts (byte ∷ []) self.old self.new }
+    {
+        self.make_room(1);
+        self.bytes[self.end] = byte;
+        self.end += 1;
+    }
+
+    // Puts bytes one after another, each where there is room.
+    #[tactic(auto, using(crate::specs::laws::PageLaws::rows, crate::specs::laws::PageLaws::parts))]
+    fn put_each(&mut self, bytes: &[u8])
+        ensures { Puts bytes.now self.old self.new }
+    {
+        for byte in bytes {
+            self.put_byte(*byte);
+        }
+    }
+
+    // Puts bytes that there is room for.
+    #[tactic(auto, using(crate::specs::laws::PageLaws::puts_pasted))]
+    fn paste(&mut self, bytes: &[u8])
+        requires { self.old.end + length bytes.now ≤ page_size }
+        ensures { Puts bytes.now self.old self.new }
+    {
+        let end = self.end + bytes.len();
+        self.bytes[self.end..end].copy_from_slice(bytes);
+        self.end = end;
+    }
+
+    // Puts bytes one after another. Nearly always there is room for all of them, and they are copied as one.
+    pub fn put(&mut self, bytes: &[u8])
+        ensures { Puts bytes.now self.old self.new }
+    {
+        if self.has_room(bytes.len()) {
+            self.paste(bytes);
+        } else {
+            self.put_each(bytes);
+        }
+    }
+
+    // Puts bytes where there is room for all of them; else nothing. There is no write in it: what is put is told before the room
+    // is made for it, by `make_room`.
+    pub fn put_here(&mut self, bytes: &[u8])
+        ensures { PutsHere (length bytes.now) (λ s. s ≡ bytes.now) self.old self.new }
+    {
+        if self.has_room(bytes.len()) {
+            self.paste(bytes);
+        }
+    }
 }

@@ -2,9 +2,13 @@
 use std::io::Error;
 
 // The descriptors of standard output and standard error.
-pub(crate) const STDOUT: i32 = 1;
+const STDOUT: i32 = 1;
 
 pub(crate) const STDERR: i32 = 2;
+
+// Nothing further is to be done. What there was to say of it is written.
+#[derive(Clone, Copy)]
+pub struct Stopped;
 
 // Writes the bytes as they are.
 pub fn show(bytes: &[u8]) {
@@ -19,46 +23,40 @@ pub fn show_number(label: &[u8], n: u64) {
 
 // Writes each byte as two hexadecimal digits, with the gap in front of it.
 pub fn show_bytes(gap: &[u8], bytes: &[u8]) {
-    let mut i: usize = 0;
-    while i < bytes.len() {
+    for byte in bytes {
         show(gap);
-        show(&text::hex(bytes[i]));
-        i += 1;
+        show(&text::hex(*byte));
     }
 }
 
 // One line on standard error: the program's name, and what is wrong.
-pub fn complain(name: &[u8], what: &[u8]) {
+pub fn complain(name: &[u8], what: &[u8]) -> Stopped {
     io::write_all(STDERR, name);
     io::write_all(STDERR, b": ");
     io::write_all(STDERR, what);
     io::write_all(STDERR, b"\n");
+    Stopped
 }
 
 // The words alone, where the number of the system's error stands after them.
 fn words(text: &str) -> &str {
-    match text.split_once(" (os error ") {
-        Some((words, _)) => words,
-        None => text,
-    }
+    text.split_once(" (os error ")
+        .map_or(text, |(words, _)| words)
 }
 
 // Why a call of the system failed, in the system's words.
 fn tell_reason(rt: &HostRuntime, error: Error) {
     match format!(in rt.alloc(); "{error}") {
-        Ok(text) => {
-            io::write_all(STDERR, words(text.as_str()).as_bytes());
-        }
-        Err(_) => {
-            io::write_all(STDERR, b"Cannot allocate memory");
-        }
-    }
+        Ok(text) => io::write_all(STDERR, words(text.as_str()).as_bytes()),
+        Err(_) => io::write_all(STDERR, b"Cannot allocate memory"),
+    };
 }
 
 // One line on standard error: what could not be read, and why.
-pub(crate) fn fail(rt: &HostRuntime, what: &[u8], error: Error) {
+pub(crate) fn fail(rt: &HostRuntime, what: &[u8], error: Error) -> Stopped {
     io::write_all(STDERR, what);
     io::write_all(STDERR, b": ");
     tell_reason(rt, error);
     io::write_all(STDERR, b"\n");
+    Stopped
 }

@@ -1,74 +1,63 @@
 // The execution times, in microseconds: those that a program takes where it is told no others, and those that it is told.
 ghost use Rattle.std.specs.Prelude.{◌≡◌};
-ghost use Rattle.desk.specs.Times.{times_of};
+ghost use Rattle.desk.specs.Number.{decimal_of};
+ghost use Rattle.desk.specs.Times.{longest, times_of};
 
 use crate::arguments::argument;
 use crate::number::number_of;
-use crate::print::complain;
-use std::num::wrapping_add_usize;
+use crate::print::{Stopped, complain};
 
-pub const RESET: u16 = 10000;
-
-pub const LONG: u16 = 1640;
-
-pub const SHORT: u16 = 40;
-
-const LONGEST: u64 = 65535;
-
-// Three times; not ok where a word is no time, and then they are 0.
+// Three times.
 #[derive(Clone, Copy)]
 pub struct Timed {
-    pub ok: bool,
     pub reset: u16,
     pub long: u16,
     pub short: u16,
 }
 
-pub(crate) const NO_TIMES: Timed = Timed {
-    ok: false,
-    reset: 0,
-    long: 0,
-    short: 0,
+const USUAL: Timed = Timed {
+    reset: 10000,
+    long: 1640,
+    short: 40,
 };
 
+// The longest of sixteen bits.
+const LONGEST: u64 = 65535;
+
+#[tactic(auto, using(crate::specs::laws::NumberLaws::not_above))]
+fn time_of(word: &[u8]) -> Option<u16>
+    ensures { result ≡ decimal_of word.now longest }
+{
+    let time = number_of(word, LONGEST)?;
+    Some(time as u16)
+}
+
 // The times that three words write.
-pub fn times_of(reset: &[u8], long: &[u8], short: &[u8]) -> Timed
+pub fn times_of(reset: &[u8], long: &[u8], short: &[u8]) -> Option<Timed>
     ensures { result ≡ times_of reset.now long.now short.now }
 {
-    let first = number_of(reset, LONGEST);
-    let second = number_of(long, LONGEST);
-    let third = number_of(short, LONGEST);
-    if first.ok & second.ok & third.ok {
-        return Timed {
-            ok: true,
-            reset: first.value as u16,
-            long: second.value as u16,
-            short: third.value as u16,
-        };
-    }
-    NO_TIMES
+    Some(Timed {
+        reset: time_of(reset)?,
+        long: time_of(long)?,
+        short: time_of(short)?,
+    })
 }
 
 // The times that the three arguments from a place on write, for a program; the usual ones where none were given. What
 // is no time writes a line.
-pub(crate) fn times_at(rt: &HostRuntime, program: &[u8], place: usize) -> Timed {
-    if place == 0 {
-        return Timed {
-            ok: true,
-            reset: RESET,
-            long: LONG,
-            short: SHORT,
-        };
-    }
-    let mut reset = io::buffer();
-    let mut long = io::buffer();
-    let mut short = io::buffer();
-    let i = argument(rt, place, &mut reset);
-    let j = argument(rt, wrapping_add_usize(place, 1), &mut long);
-    let k = argument(rt, wrapping_add_usize(place, 2), &mut short);
-    let timed = times_of(&reset[..i], &long[..j], &short[..k]);
-    if !timed.ok {
-        complain(program, b"times takes three numbers of at most 65535");
-    }
-    timed
+pub(crate) fn times_at(
+    rt: &HostRuntime,
+    program: &[u8],
+    place: Option<usize>,
+) -> Result<Timed, Stopped> {
+    let Some(place) = place else {
+        return Ok(USUAL);
+    };
+    let reset = argument(rt, place);
+    let long = argument(rt, place.wrapping_add(1));
+    let short = argument(rt, place.wrapping_add(2));
+    times_of(reset.as_slice(), long.as_slice(), short.as_slice()).ok_or_else(|| complain(
+        program,
+        b"times takes three numbers of at most 65535",
+    ))
 }

@@ -1,6 +1,7 @@
 -- The bytes carried from one part of a log to the next.
-use Rattle.std.specs.Prelude.{ℕ, ◌-◌, ◌||◌, List, [], ◌++◌, length, take, replicate}
+use Rattle.std.specs.Prelude.{ℕ, ◌-◌, ◌||◌, List, [], ◌++◌, length, take}
 use Rattle.laws.specs.Pick.{pick}
+use Rattle.buffer.specs.Buffer.{held_of, buffer_of}
 use Rattle.framing.specs.Frame.{record_size, no_length, outside_length, wants_more}
 use Rattle.framing.specs.declared.carry.Carry.{Carry}
 use Rattle.framing.specs.declared.carry.Filled.{Filled}
@@ -11,11 +12,11 @@ room = 66
 
 -- what a carry holds: all its bytes where its length says more
 abbrev pub carried_of : Carry → List ℕ
-carried_of c = take c.len c.bytes
+carried_of c = held_of c.held
 
 -- the one carry that holds these bytes, 0 after them
-unfoldable pub carry_of : List ℕ → Carry
-carry_of s = record { bytes = s ++ replicate (room - length s) 0; len = length s }
+abbrev pub carry_of : List ℕ → Carry
+carry_of s = record { held = buffer_of room s }
 
 -- the bytes that may begin a record: none where they want no more
 abbrev pub wanting_of : List ℕ → List ℕ

@@ -1,5 +1,5 @@
 -- The framing of the log: what stands at the front of a slice of its bytes.
-use Rattle.std.specs.Prelude.{ℕ, ◌+◌, ◌*◌, ◌/◌, ◌%◌, ◌^◌, Bool, not, ◌&&◌, ◌||◌, List, length, get_or, ltb, leb, eqb}
+use Rattle.std.specs.Prelude.{ℕ, ◌+◌, ◌*◌, ◌/◌, ◌%◌, ◌^◌, Bool, not, ◌&&◌, ◌||◌, Option, Some, None, List, length, get_or, ltb, leb, eqb}
 use Rattle.laws.specs.Pick.{pick}
 use Rattle.framing.specs.declared.frame.Frame.{Frame}
 use Rattle.framing.specs.declared.frame.Frame.TheVariants.{Cut, Bad, Transfer, Reset}
@@ -100,10 +100,10 @@ size_of (Bad n) = n
 size_of (Transfer t rs reads d) = 14
 size_of (Reset t) = 12
 
--- the size that the length tells: 0 where it is not there yet or lies outside
-unfoldable pub told_size : List ℕ → ℕ
-told_size s = pick (no_length s || outside_length s) 0 (record_size s)
+-- the size that the length tells: none where it is not there yet or lies outside
+unfoldable pub told_size : List ℕ → Option ℕ
+told_size s = pick (no_length s || outside_length s) None (Some (record_size s))
 
--- the bytes that the record at the front takes up, off the lengths alone: 0 where it is cut
-unfoldable pub whole_size : List ℕ → ℕ
-whole_size s = pick (cut_at s) 0 (record_size s)
+-- the bytes that the record at the front takes up, off the lengths alone: none where it is cut
+unfoldable pub whole_size : List ℕ → Option ℕ
+whole_size s = pick (cut_at s) None (Some (record_size s))

@@ -1,24 +1,22 @@
 // The bytes of a record that is cut at the end of one part of a log, carried to the next part.
-ghost use Rattle.std.specs.Prelude.{◌≡◌, ◌+◌, ◌-◌, ◌≤◌, min, [], length, take};
-ghost use Rattle.std.proofs.Math.Seq.{paste};
+ghost use Rattle.std.specs.Prelude.{◌≡◌, ◌≤◌, [], take};
 ghost use Rattle.framing.specs.Flaw.{flaw_of};
 ghost use Rattle.framing.specs.Frame.{frame_of, wants_more};
 ghost use Rattle.framing.specs.Carry.{room, carried_of, carry_of, wanting_of, topped_of, filled_of};
 ghost use Rattle.framing.specs.engine.Reading.{Reach};
-ghost use Rattle.laws.specs.Held.{Held};
 
 use crate::flaw::Flaw;
 use crate::frame::Frame;
 use crate::front::{flaw, frame, told, wants_more};
+use buffer::buffer::Buffer;
 
 // The largest record, 64 bytes and the length's own two.
 const ROOM: usize = 66;
 
-// The first `len` of `bytes`, all of them where `len` says more. What lies past `len` is 0 in every carry made here.
+// The bytes carried.
 #[derive(Clone, Copy)]
 pub struct Carry {
-    pub bytes: [u8; ROOM],
-    pub len: usize,
+    pub held: Buffer<ROOM>,
 }
 
 // A carry, and how many bytes of the part it took.
@@ -28,119 +26,71 @@ pub struct Filled {
     pub taken: usize,
 }
 
-// The lesser of two.
-fn least(a: usize, b: usize) -> usize
-    ensures { result ≡ min a b }
-{
-    if a < b {
-        return a;
-    }
-    b
-}
-
-// How many bytes are carried: `len`, or all where it says more.
-pub fn carried(bytes: [u8; ROOM], len: usize) -> usize
-    ensures { Held room bytes len result }
-{
-    if len < ROOM {
-        return len;
-    }
-    ROOM
-}
-
-// What a is above b, 0 where it isn't.
-fn above(a: usize, b: usize) -> usize
-    ensures { result ≡ a - b }
-{
-    if a < b {
-        return 0;
-    }
-    a - b
-}
-
-// `bytes` with the first n bytes of `part` from `at` on.
-fn pasted(bytes: [u8; ROOM], at: usize, part: &[u8], n: usize) -> [u8; ROOM]
-    requires { (at + n ≤ room) × (n ≤ length part.now) }
-    ensures { result ≡ paste bytes at part.now n }
-{
-    let mut copy = bytes;
-    let mut i: usize = 0;
-    while i < n {
-        copy[at + i] = part[i];
-        i = i + 1;
-    }
-    copy
-}
-
 impl Carry {
     // Nothing carried.
     pub fn empty() -> Carry
         ensures { result ≡ carry_of [] }
     {
-        let bytes = [0u8; ROOM];
-        Carry { bytes, len: 0 }
+        Carry {
+            held: Buffer::empty(),
+        }
     }
 
     // The whole of a part that wants more: at most 65 bytes. Of a longer part, the first 66.
     pub fn keep(part: &[u8]) -> Carry
         ensures { result ≡ carry_of (take room part.now) }
     {
-        let n = least(ROOM, part.len());
-        let zeros = [0u8; ROOM];
-        let bytes = pasted(zeros, 0, part, n);
-        Carry { bytes, len: n }
+        Carry {
+            held: Buffer::keep(part),
+        }
+    }
+
+    // The bytes carried.
+    pub fn bytes(&self) -> &[u8]
+        ensures { result.now ≡ carried_of self.now }
+    {
+        self.held.as_slice()
     }
 
     // What stands at the front of the carried bytes.
-    pub fn frame(self) -> Frame
-        ensures { result ≡ frame_of (carried_of self) }
+    pub fn frame(&self) -> Frame
+        ensures { result ≡ frame_of (carried_of self.now) }
     {
-        let bytes = self.bytes;
-        let held = carried(bytes, self.len);
-        frame(&bytes[..held])
+        frame(self.bytes())
     }
 
     // What is wrong with it.
-    pub fn flaw(self) -> Flaw
-        ensures { result ≡ flaw_of (carried_of self) }
+    pub fn flaw(&self) -> Option<Flaw>
+        ensures { result ≡ flaw_of (carried_of self.now) }
     {
-        let bytes = self.bytes;
-        let held = carried(bytes, self.len);
-        flaw(&bytes[..held])
+        flaw(self.bytes())
     }
 
     // Whether they may be a whole record once more bytes follow.
-    pub fn wants_more(self) -> bool
-        ensures { result ≡ wants_more (carried_of self) }
+    pub fn wants_more(&self) -> bool
+        ensures { result ≡ wants_more (carried_of self.now) }
     {
-        let bytes = self.bytes;
-        let held = carried(bytes, self.len);
-        wants_more(&bytes[..held])
+        wants_more(self.bytes())
     }
 
     // The same bytes, 0 after them; none where they want no more.
+    #[tactic(auto, using(crate::specs::laws::CarryLaws::keep_wanting, crate::specs::laws::CarryLaws::drop_broken))]
     pub fn wanting(self) -> Carry
         ensures { result ≡ carry_of (wanting_of (carried_of self)) }
     {
         if self.wants_more() {
-            let bytes = self.bytes;
-            let held = carried(bytes, self.len);
-            return Carry::keep(&bytes[..held]);
+            Carry::keep(self.bytes())
+        } else {
+            Carry::empty()
         }
-        Carry::empty()
     }
 
     // How many bytes its record wants: the length's own two until they are there, then all that it counts.
+    #[tactic(auto, using(crate::specs::laws::CarryLaws::reach_is))]
     fn reach(self) -> usize
         ensures { Reach (carried_of self) result }
     {
-        let bytes = self.bytes;
-        let held = carried(bytes, self.len);
-        let size = told(&bytes[..held]);
-        if size == 0 {
-            return 2;
-        }
-        size
+        told(self.bytes()).unwrap_or(2)
     }
 
     // The carry with the bytes of a part that bring it up to `to`.
@@ -148,18 +98,12 @@ impl Carry {
         requires { to ≤ room }
         ensures { result ≡ topped_of (carried_of self) to part.now }
     {
-        let bytes = self.bytes;
-        let held = carried(bytes, self.len);
-        let kept = Carry::keep(&bytes[..held]);
-        let clean = kept.bytes;
-        let n = least(above(to, held), part.len());
-        let copy = pasted(clean, held, part, n);
+        let taken = to.saturating_sub(self.bytes().len()).min(part.len());
+        let mut held = self.held;
+        held.extend(&part[..taken]);
         Filled {
-            carry: Carry {
-                bytes: copy,
-                len: held + n,
-            },
-            taken: n,
+            carry: Carry { held },
+            taken,
         }
     }
 
@@ -168,9 +112,7 @@ impl Carry {
     pub fn fill(self, part: &[u8]) -> Filled
         ensures { result ≡ filled_of (carried_of self) part.now }
     {
-        let start = self.topped(2, part);
-        let head = start.carry;
-        let to = head.reach();
+        let to = self.topped(2, part).carry.reach();
         self.topped(to, part)
     }
 }

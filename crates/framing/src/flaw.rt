@@ -1,8 +1,6 @@
 // What is wrong with a record that is bad.
 #[derive(Clone, Copy)]
 pub enum Flaw {
-    // It is a record that can be used, or there is no whole one.
-    Nothing,
     // A kind that is neither 1 nor 2.
     Kind(u64),
     // A length that its kind does not have.

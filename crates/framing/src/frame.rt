@@ -5,10 +5,12 @@ ghost use Rattle.framing.specs.Frame.{size_of};
 // What stands at the front of a slice.
 #[derive(Clone, Copy)]
 pub enum Frame {
-    // No whole record.
+    // No whole record: a case of the rules beside a bad one, with an answer of its own, so it is no None.
     Cut,
     // A record that can't be used, and its size with the length's own two bytes.
     Bad(usize),
+    // By name, and no type of its own: the mirror's promises that its time is in time, which an account cannot promise of a half
+    // that is handed in, and the account's has methods that only the account can give it.
     Transfer {
         time: u64,
         rs: bool,
@@ -21,20 +23,15 @@ pub enum Frame {
 }
 
 impl Frame {
-    // The bytes that it takes up: 0 for a cut.
+    // The bytes that it takes up: 0 for a cut, which the rules count as using none.
     pub fn size(self) -> usize
         ensures { result ≡ size_of self }
     {
         match self {
             Frame::Cut => 0,
             Frame::Bad(size) => size,
-            Frame::Transfer {
-                time: _,
-                rs: _,
-                rw: _,
-                data: _,
-            } => 14,
-            Frame::Reset { time: _ } => 12,
+            Frame::Transfer { .. } => 14,
+            Frame::Reset { .. } => 12,
         }
     }
 }

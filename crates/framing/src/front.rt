@@ -1,91 +1,73 @@
 // The record at the front of a log: told by its length, kind, time and control.
-ghost use Rattle.std.specs.Prelude.{◌≡◌, ◌+◌, ◌≤◌, length};
+ghost use Rattle.std.specs.Prelude.{◌≡◌, ◌+◌, ◌≤◌, length, MatchBool};
 ghost use Rattle.framing.specs.Flaw.{flaw_of};
-ghost use Rattle.framing.specs.Frame.{told_size, whole_size, wants_more, frame_of};
-ghost use Rattle.framing.specs.engine.Reading.{Byte, Num16, Num64, Whole};
+ghost use Rattle.framing.specs.Frame.{num16, time_of, told_size, whole_size, wants_more, frame_of};
+ghost use Rattle.framing.specs.engine.Reading.{Whole};
 
 use crate::flaw::Flaw;
 use crate::frame::Frame;
 
 // 2^48: times are below it.
-const TIME_END: u64 = 281474976710656;
+const TIME_END: u64 = 1 << 48;
 
 // Length 12 and kind 1, as the first four bytes of a transfer have them.
-const TRANSFER: u64 = 65548;
-
-// A byte as a wide number.
-fn wide(x: u8) -> u64
-    ensures { Byte x result }
-{
-    x as u64
-}
+const TRANSFER: u32 = 0x0001_000C;
 
 // The little-endian number of two bytes at a place.
-fn num16(log: &[u8], at: usize) -> u64
+fn num16(log: &[u8], at: usize) -> u16
     requires { at + 2 ≤ length log.now }
-    ensures { Num16 log.now at result }
+    ensures { result ≡ num16 log.now at }
 {
-    let low = wide(log[at]);
-    let high = wide(log[at + 1]);
-    low + 256 * high
+    u16::from_le_bytes([log[at], log[at + 1]])
 }
 
-// The little-endian number of eight bytes at a place.
-fn num64(log: &[u8], at: usize) -> u64
-    requires { at + 8 ≤ length log.now }
-    ensures { Num64 log.now at result }
+// The time of a record that has one.
+fn time(log: &[u8]) -> u64
+    requires { 12 ≤ length log.now }
+    ensures { result ≡ time_of log.now }
 {
-    let a = num16(log, at);
-    let b = num16(log, at + 2);
-    let c = num16(log, at + 4);
-    let d = num16(log, at + 6);
-    a + 65536 * b + 4294967296 * c + 281474976710656 * d
+    u64::from_le_bytes([
+        log[4], log[5], log[6], log[7], log[8], log[9], log[10], log[11],
+    ])
 }
 
-// The record's size that its length tells; 0 where the length isn't there yet or lies outside 2 to 64.
-pub fn told(log: &[u8]) -> usize
+// The record's size that its length tells; none where the length isn't there yet or lies outside 2 to 64.
+#[tactic(auto, using(crate::specs::laws::FrontLaws::told_laws))]
+pub fn told(log: &[u8]) -> Option<usize>
     ensures { result ≡ told_size log.now }
 {
     if log.len() < 2 {
-        return 0;
+        return None;
     }
-    let length = num16(log, 0) as usize;
-    if length < 2 {
-        return 0;
+    match num16(log, 0) as usize {
+        length @ 2..=64 => Some(length + 2),
+        _ => None,
     }
-    if 64 < length {
-        return 0;
-    }
-    length + 2
 }
 
-// The size of the record at the front, with its length's own two bytes; 0 where it is cut.
-pub fn whole(log: &[u8]) -> usize
+// The size of the record at the front, with its length's own two bytes; none where it is cut.
+#[tactic(auto, using(crate::specs::laws::FrontLaws::whole_told))]
+pub fn whole(log: &[u8]) -> Option<usize>
     ensures { result ≡ whole_size log.now }
 {
-    let size = told(log);
-    if log.len() < size {
-        return 0;
-    }
-    size
+    told(log).filter(|size| *size <= log.len())
 }
 
 // Whether what is cut here may be whole once more bytes follow.
+#[tactic(auto, using(crate::specs::laws::CutLaws::wants_told))]
 pub fn wants_more(log: &[u8]) -> bool
     ensures { result ≡ wants_more log.now }
 {
-    if log.len() < 2 {
-        return true;
-    }
-    log.len() < told(log)
+    log.len() < 2 || told(log).is_some_and(|size| log.len() < size)
 }
 
 // A transfer of the right length: its time and control are tested here.
+#[tactic(auto, using(crate::specs::laws::FrameLaws::transfer_laws))]
 fn transfer(log: &[u8]) -> Frame
     requires { Whole log.now 14 1 }
     ensures { result ≡ frame_of log.now }
 {
-    let time = num64(log, 4);
+    let time = time(log);
     if TIME_END <= time {
         return Frame::Bad(14);
     }
@@ -93,90 +75,73 @@ fn transfer(log: &[u8]) -> Frame
     if 4 <= control {
         return Frame::Bad(14);
     }
-    let rs = control % 2 == 1;
-    let rw = control / 2 % 2 == 1;
-    let data = log[13];
-    Frame::Transfer { time, rs, rw, data }
+    Frame::Transfer {
+        time,
+        rs: control % 2 == 1,
+        rw: control / 2 % 2 == 1,
+        data: log[13],
+    }
 }
 
 // A reset of the right length.
+#[tactic(auto, using(crate::specs::laws::FrameLaws::reset_laws))]
 fn reset(log: &[u8]) -> Frame
     requires { Whole log.now 12 2 }
     ensures { result ≡ frame_of log.now }
 {
-    let time = num64(log, 4);
+    let time = time(log);
     if TIME_END <= time {
         return Frame::Bad(12);
     }
     Frame::Reset { time }
 }
 
-// Any record, by its size and kind.
-fn any(log: &[u8]) -> Frame
-    ensures { result ≡ frame_of log.now }
+// Whether a transfer of the right length stands at the front: one look at its first four bytes tells.
+fn is_transfer(log: &[u8]) -> bool
+    ensures { MatchBool result (Whole log.now 14 1) (Whole log.now 14 1 → ⊥) }
 {
-    let size = whole(log);
-    if size == 0 {
-        return Frame::Cut;
-    }
-    let kind = num16(log, 2);
-    if kind == 1 {
-        if size == 14 {
-            return transfer(log);
-        }
-        return Frame::Bad(size);
-    }
-    if kind == 2 {
-        if size == 12 {
-            return reset(log);
-        }
-    }
-    Frame::Bad(size)
+    14 <= log.len() && u32::from_le_bytes([log[0], log[1], log[2], log[3]]) == TRANSFER
 }
 
-// The record at the front, whatever follows it. Nearly all are transfers of the right length, which one look at the
-// first four bytes tells.
+// Any other record, by its size and kind.
+#[tactic(auto, using(crate::specs::laws::FrameLaws::any_laws))]
+fn other(log: &[u8]) -> Frame
+    requires { Whole log.now 14 1 → ⊥ }
+    ensures { result ≡ frame_of log.now }
+{
+    let Some(size) = whole(log) else {
+        return Frame::Cut;
+    };
+    if size == 12 && num16(log, 2) == 2 {
+        reset(log)
+    } else {
+        Frame::Bad(size)
+    }
+}
+
+// The record at the front, whatever follows it. Nearly all are transfers of the right length.
 pub fn frame(log: &[u8]) -> Frame
     ensures { result ≡ frame_of log.now }
 {
-    if 14 <= log.len() {
-        let head = num16(log, 0) + 65536 * num16(log, 2);
-        if head == TRANSFER {
-            return transfer(log);
-        }
+    if is_transfer(log) {
+        transfer(log)
+    } else {
+        other(log)
     }
-    any(log)
 }
 
 // What is wrong with the record at the front: the first of these, whatever follows it.
-pub fn flaw(log: &[u8]) -> Flaw
+#[tactic(auto, using(crate::specs::laws::FlawLaws::flaw_laws))]
+pub fn flaw(log: &[u8]) -> Option<Flaw>
     ensures { result ≡ flaw_of log.now }
 {
-    let size = whole(log);
-    if size == 0 {
-        return Flaw::Nothing;
-    }
-    let kind = num16(log, 2);
-    if kind == 1 {
-        if size != 14 {
-            return Flaw::Length(size - 2);
-        }
-        if TIME_END <= num64(log, 4) {
-            return Flaw::LateTime;
-        }
-        if 4 <= log[12] {
-            return Flaw::StrayControl;
-        }
-        return Flaw::Nothing;
-    }
-    if kind == 2 {
-        if size != 12 {
-            return Flaw::Length(size - 2);
-        }
-        if TIME_END <= num64(log, 4) {
-            return Flaw::LateTime;
-        }
-        return Flaw::Nothing;
-    }
-    Flaw::Kind(kind)
+    let size = whole(log)?;
+    let flaw = match (num16(log, 2), size) {
+        (1, 14) | (2, 12) if TIME_END <= time(log) => Flaw::LateTime,
+        (1, 14) if 4 <= log[12] => Flaw::StrayControl,
+        (1, 14) | (2, 12) => return None,
+        (1 | 2, _) => Flaw::Length(size - 2),
+        (kind, _) => Flaw::Kind(u64::from(kind)),
+    };
+    Some(flaw)
 }

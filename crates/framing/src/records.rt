@@ -5,16 +5,15 @@ ghost use Rattle.framing.specs.Frames.{records_of};
 use crate::front::whole;
 
 // The whole records before the cut or the end, off the lengths alone.
+#[tactic(auto, using(crate::specs::laws::FrontLaws::some_front, crate::specs::laws::FramesLaws::records_end))]
 pub fn records(log: &[u8]) -> usize
     ensures { result ≡ records_of log.now }
 {
-    let mut at: usize = 0;
-    let mut count: usize = 0;
-    let mut size = whole(log);
-    while 0 < size {
-        at = at + size;
-        count = count + 1;
-        size = whole(&log[at..]);
+    let mut rest = log;
+    let mut count = 0;
+    while let Some(size) = whole(rest) {
+        rest = &rest[size..];
+        count += 1;
     }
     count
 }

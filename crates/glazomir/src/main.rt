@@ -5,10 +5,11 @@ use chip::address::Address;
 use chip::registers::Registers;
 use chip::sizes::{DISPLAY_SIZE, places};
 use desk::arguments::{Given, asked};
-use desk::input::{BLOCK, Input};
-use desk::print::{show, show_bytes, show_number};
+use desk::input::{BLOCK, each_block};
+use desk::print::{Stopped, show, show_bytes, show_number};
 use desk::progress::Progress;
 use desk::told::told_at;
+use mirror::answer::COUNTED;
 use mirror::panel::Panel;
 use mirror::stream::{Run, Stream};
 
@@ -17,69 +18,37 @@ const CHIP: usize = 0;
 
 const TIMES: usize = 1;
 
-// What the whole of standard input leaves, and whether the reading failed.
-#[derive(Clone, Copy)]
-struct Fed {
-    stream: Stream,
-    failed: bool,
-}
-
-fn feed_all(rt: &HostRuntime, start: Stream, block: &mut [u8]) -> Fed {
-    let mut stream = start;
-    let mut input = Input::start();
-    let mut progress = Progress::start(rt);
-    while input.left > 0 {
-        input = input.read(rt, block);
-        let n = input.len;
-        progress = progress.after(rt, b"glazomir", n);
-        stream = stream.feed(&block[..n]);
-    }
-    progress.clear();
-    Fed {
-        stream,
-        failed: input.failed,
-    }
-}
-
-fn line(label: &[u8], n: u64) {
-    show_number(label, n);
+fn line(name: &str, n: u64) {
+    show(name.as_bytes());
+    show_number(b" ", n);
     show(b"\n");
 }
 
-fn print_counts(run: Run) {
-    let counts = run.counts;
-    line(b"records ", run.records);
-    line(b"taken ", counts[0]);
-    line(b"doubtful ", counts[1]);
-    line(b"held ", counts[2]);
-    line(b"status ", counts[3]);
-    line(b"ignored ", counts[4]);
-    line(b"torn ", counts[5]);
-    line(b"back ", counts[6]);
-    line(b"bad ", counts[7]);
-    line(b"none ", counts[8]);
-    line(b"cut ", run.cut as u64);
+fn print_counts(run: &Run) {
+    line("records", run.records);
+    for (answer, n) in COUNTED.iter().zip(run.counts.iter()) {
+        line(answer.name(), *n);
+    }
+    line("cut", run.cut as u64);
 }
 
-fn print_address(registers: Registers) {
-    let address = registers.address;
-    match address {
+fn print_address(registers: &Registers) {
+    match registers.address {
         Address::Display(_) => show(b"address"),
         Address::Pattern(_) => show(b"pattern"),
     }
-    show_bytes(b" ", &[address.number(registers.chip)]);
+    show_bytes(b" ", &[registers.address.number(registers.chip)]);
 }
 
 // By display address, as many as the chip has.
-fn print_codes(chip: u8, display: [u8; DISPLAY_SIZE]) {
-    let n = places(chip);
+fn print_codes(chip: u8, display: &[u8; DISPLAY_SIZE]) {
     show(b"\ncodes");
-    show_bytes(b" ", &display[..n]);
+    show_bytes(b" ", &display[..places(chip)]);
     show(b"\n");
 }
 
 // What was asked for; its help explains the thirteen lines.
-fn arguments(rt: &HostRuntime) -> Given {
+fn arguments(rt: &HostRuntime) -> Result<Given, Stopped> {
     asked(
         rt,
         b"glazomir",
@@ -106,30 +75,30 @@ fn arguments(rt: &HostRuntime) -> Given {
     )
 }
 
-fn main(rt: HostRuntime) {
-    let given = arguments(&rt);
-    if !given.ok {
-        return;
-    }
-    let places = given.places;
-    let told = told_at(&rt, b"glazomir", places[CHIP], places[TIMES]);
-    if !told.ok {
-        return;
-    }
+fn run(rt: &HostRuntime) -> Result<(), Stopped> {
+    let given = arguments(rt)?;
+    let told = told_at(rt, b"glazomir", given.places[CHIP], given.places[TIMES])?;
     let times = told.times;
+    let mut stream = Stream::start(Panel::fresh(told.chip, times.reset, times.long, times.short));
     let mut block = [0; BLOCK];
-    let start = Stream::start(Panel::fresh(told.chip, times.reset, times.long, times.short));
-    let fed = feed_all(&rt, start, &mut block);
-    if fed.failed {
-        return;
-    }
-    let stream = fed.stream;
+    each_block(
+        rt,
+        b"glazomir",
+        Progress::start(rt),
+        &mut block,
+        |_, part| {
+            stream = stream.feed(part);
+            true
+        },
+    )?;
     let run = stream.end();
-    let panel = run.panel;
-    let sheet = panel.sheet;
-    let registers = sheet.registers;
-    let display = sheet.display;
-    print_counts(run);
-    print_address(registers);
-    print_codes(told.chip, display);
+    print_counts(&run);
+    print_address(&run.panel.sheet.registers);
+    print_codes(told.chip, &run.panel.sheet.display);
+    Ok(())
+}
+
+// What stops it has been written by then, and the launcher tells from that how it ended.
+fn main(rt: HostRuntime) {
+    let _ = run(&rt);
 }

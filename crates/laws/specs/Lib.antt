@@ -1,6 +1,5 @@
 pub mod Pick
 pub mod Ring
 pub mod Bit
-pub mod Held
 pub mod engine
 pub mod laws

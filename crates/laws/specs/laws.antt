@@ -3,4 +3,3 @@ pub mod PickLaws
 pub mod RingLaws
 pub mod BitLaws
 pub mod TurnsLaws
-pub mod HeldLaws

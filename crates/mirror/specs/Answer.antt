@@ -1,5 +1,5 @@
 -- The numbers of the answers to a record (document 01, "Answer numbers"; doubtful, document 02, wish 2).
-use Rattle.std.specs.Prelude.{ℕ, ◌+◌, Bool, ◌||◌, eqb, ltb}
+use Rattle.std.specs.Prelude.{ℕ, ◌+◌, Bool, ◌||◌, List, [], ◌∷◌, eqb, ltb}
 use Rattle.laws.specs.Pick.{pick}
 use Rattle.mirror.specs.declared.answer.Answer.{Answer}
 use Rattle.mirror.specs.declared.answer.Answer.TheVariants.{Taken, Doubtful, Held, Status, Ignored, Torn, Back, Bad, Nothing, Cut, Unsound}
@@ -16,6 +16,20 @@ number_of Nothing = 7
 number_of Cut = 8
 number_of Unsound = 10
 number_of Doubtful = 11
+
+-- the name that a program prints of it, in bytes
+abbrev pub name_of : Answer → List ℕ
+name_of Taken = 116 ∷ 97 ∷ 107 ∷ 101 ∷ 110 ∷ []
+name_of Doubtful = 100 ∷ 111 ∷ 117 ∷ 98 ∷ 116 ∷ 102 ∷ 117 ∷ 108 ∷ []
+name_of Held = 104 ∷ 101 ∷ 108 ∷ 100 ∷ []
+name_of Status = 115 ∷ 116 ∷ 97 ∷ 116 ∷ 117 ∷ 115 ∷ []
+name_of Ignored = 105 ∷ 103 ∷ 110 ∷ 111 ∷ 114 ∷ 101 ∷ 100 ∷ []
+name_of Torn = 116 ∷ 111 ∷ 114 ∷ 110 ∷ []
+name_of Back = 98 ∷ 97 ∷ 99 ∷ 107 ∷ []
+name_of Bad = 98 ∷ 97 ∷ 100 ∷ []
+name_of Nothing = 110 ∷ 111 ∷ 110 ∷ 101 ∷ []
+name_of Cut = 99 ∷ 117 ∷ 116 ∷ []
+name_of Unsound = 117 ∷ 110 ∷ 115 ∷ 111 ∷ 117 ∷ 110 ∷ 100 ∷ []
 
 -- and the answer of a number
 abbrev pub answer_of : ℕ → Answer

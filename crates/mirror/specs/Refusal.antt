@@ -1,8 +1,15 @@
--- The number of a refusal (document 01, "Answer numbers").
+-- The refusals and their numbers (document 01, "Answer numbers").
 use Rattle.std.specs.Prelude.{ℕ}
 use Rattle.std.proofs.Math.Option.{Option, none, some}
+use Rattle.mirror.specs.declared.answer.Refusal.{Refusal}
+use Rattle.mirror.specs.declared.answer.Refusal.TheVariants.{Cut, Size, Unsound}
 
--- as a call says it: 0 where nothing was refused, which is no refusal's number
+abbrev pub refusal_number : Refusal → ℕ
+refusal_number Cut = 8
+refusal_number Size = 9
+refusal_number Unsound = 10
+
+-- as a program prints it: 0 where nothing was refused, which is no refusal's number
 abbrev pub numbered : Option ℕ → ℕ
 numbered none = 0
 numbered (some n) = n

@@ -1,5 +1,5 @@
 -- WHICH PLACES ARE WRITTEN (document 02, wish 3): what a call answers; what the bits of a sound panel are, and what a record does to them, clause by clause.
-use Rattle.std.specs.Prelude.{ℕ, ◌%◌, ◌<◌, ◌≤◌, ◌≡◌, Bool, true, false, not, List, length, eqb}
+use Rattle.std.specs.Prelude.{ℕ, ◌%◌, ◌<◌, ◌≤◌, ◌≡◌, true, false, not, List, length, eqb, Result, Ok, Err}
 use Rattle.std.proofs.Math.Option.{Option, none, some}
 use Rattle.laws.specs.Pick.{pick}
 use Rattle.laws.specs.Bit.{bit, one}
@@ -11,40 +11,37 @@ use Rattle.chip.specs.declared.address.PatternAddress.{PatternAddress}
 use Rattle.chip.specs.declared.address.Address.{Address}
 use Rattle.chip.specs.declared.address.Address.TheVariants.{Display, Pattern}
 use Rattle.mirror.specs.Answer.{carried_out}
-use Rattle.mirror.specs.Refusal.{numbered}
+use Rattle.mirror.specs.Refusal.{refusal_number}
 use Rattle.mirror.specs.Panel.{fresh_panel, sound_panel}
 use Rattle.mirror.specs.Table.{byte_of}
 use Rattle.mirror.specs.Answers.{answer_to, panel_after, Proper}
 use Rattle.mirror.specs.Good.{CarriedOut, Instructed}
 use Rattle.mirror.specs.declared.panel.Panel.{Panel}
-use Rattle.mirror.specs.declared.written.PlacesWritten.{PlacesWritten}
-use Rattle.mirror.specs.declared.written.PlacesWritten.TheVariants.{Bits, Unsound}
+use Rattle.mirror.specs.declared.answer.Refusal.{Refusal}
+use Rattle.mirror.specs.declared.answer.Refusal.TheVariants.{Unsound}
 
 -- this paper's number of an answer, none where nothing was refused, and its bits
 pub record WrittenPaper : Type 0 where
   pub number : Option ℕ
   pub bits : ℕ
 
-abbrev pub written_paper : PlacesWritten → WrittenPaper
-written_paper (Bits bits) = record { number = none; bits = bits }
-written_paper Unsound = record { number = some 10; bits = 0 }
-
-abbrev pub written_refusal : PlacesWritten → ℕ
-written_refusal answer = numbered (written_paper answer).number
+abbrev pub written_paper : Result ℕ Refusal → WrittenPaper
+written_paper (Ok bits) = record { number = none; bits = bits }
+written_paper (Err refusal) = record { number = some (refusal_number refusal); bits = 0 }
 
 -- what the walk over display memory answers
 abbrev pub walk_of : Panel → ℕ
 walk_of p = written_in display_size p.sheet.display
 
 -- 10 for a panel that is not sound; otherwise what the walk answers
-abbrev pub written_of : Panel → PlacesWritten
-written_of p = pick (not (sound_panel p)) Unsound (Bits (walk_of p))
+abbrev pub written_of : Panel → Result ℕ Refusal
+written_of p = pick (not (sound_panel p)) (Err Unsound) (Ok (walk_of p))
 
 abbrev pub written_for : Panel → WrittenPaper
 written_for p = pick (not (sound_panel p)) (record { number = some 10; bits = 0 }) (record { number = none; bits = walk_of p })
 
 -- all that the call says
-pub record Tells (p : Panel) (answer : PlacesWritten) : Type 0 where
+pub record Tells (p : Panel) (answer : Result ℕ Refusal) : Type 0 where
   pub told : answer ≡ written_of p
   pub paper : written_paper answer ≡ written_for p
 

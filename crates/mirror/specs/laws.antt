@@ -1,11 +1,8 @@
-pub mod FlatLaws
-pub mod LiveLaws
 pub mod ActsLaws
 pub mod RecordLaws
 pub mod SoundParts
 pub mod TableLaws
 pub mod RunLaws
-pub mod PartLaws
 pub mod StreamLaws
 pub mod NextLaws
 pub mod ReadLaws
@@ -18,4 +15,5 @@ pub mod BusyLaws
 pub mod CarriedLaws
 pub mod GoodLaws
 pub mod AskedLaws
+pub mod CountedLaws
 pub mod WrittenLaws

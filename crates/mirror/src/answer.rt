@@ -1,9 +1,12 @@
-// The answers to a record, and their numbers.
+// The answers to a record, their numbers and their names; and why a call is refused.
 ghost use Rattle.std.specs.Prelude.{◌≡◌};
-ghost use Rattle.mirror.specs.Answer.{number_of, place_of};
+ghost use Rattle.mirror.specs.Answer.{name_of, number_of, place_of};
 ghost use Rattle.mirror.specs.Answers.{clocked};
+ghost use Rattle.mirror.specs.Refusal.{refusal_number};
 
-#[derive(Clone, Copy)]
+use crate::count::COUNTS;
+
+#[derive(Clone, Copy, PartialEq, Eq)]
 pub enum Answer {
     Taken,
     Doubtful,
@@ -41,11 +44,14 @@ impl Answer {
     pub fn clocked(self) -> bool
         ensures { result ≡ clocked (number_of self) }
     {
-        let n = self.number();
-        ((n == 0) | (n == 11)) | (n <= 4) | (n == 7)
+        !matches!(
+            self,
+            Answer::Back | Answer::Bad | Answer::Cut | Answer::Unsound
+        )
     }
 
-    // The place of its count; past the last where it has none. The cases stand in that order, so that it costs nothing.
+    // The place of its count; past the last where it has none. The cases stand in that order, and the numbers above are told by a
+    // function, so that the place costs nothing in the loop over records; as an Option of a place it costs a fifth at width 4.
     pub fn place(self) -> u8
         ensures { result ≡ place_of (number_of self) }
     {
@@ -62,5 +68,68 @@ impl Answer {
             Answer::Cut => 9,
             Answer::Unsound => 9,
         }
+    }
+
+    pub fn name(self) -> &'static str
+        ensures { result.now ≡ name_of self }
+    {
+        match self {
+            Answer::Taken => "taken",
+            Answer::Doubtful => "doubtful",
+            Answer::Held => "held",
+            Answer::Status => "status",
+            Answer::Ignored => "ignored",
+            Answer::Torn => "torn",
+            Answer::Back => "back",
+            Answer::Bad => "bad",
+            Answer::Nothing => "none",
+            Answer::Cut => "cut",
+            Answer::Unsound => "unsound",
+        }
+    }
+}
+
+// The answers that have a count, each at its place.
+pub const COUNTED: [Answer; COUNTS] = [
+    Answer::Taken,
+    Answer::Doubtful,
+    Answer::Held,
+    Answer::Status,
+    Answer::Ignored,
+    Answer::Torn,
+    Answer::Back,
+    Answer::Bad,
+    Answer::Nothing,
+];
+
+// How a record is answered, with the byte on the bus.
+#[derive(Clone, Copy)]
+pub struct Verdict {
+    pub answer: Answer,
+    pub byte: u8,
+}
+
+impl Verdict {
+    // With nothing on the bus.
+    pub(crate) fn of(answer: Answer) -> Verdict
+        ensures { result ≡ record { answer = answer; byte = 0 } }
+    {
+        Verdict { answer, byte: 0 }
+    }
+}
+
+// Why a call is refused: a log or record that is cut, a frame of another size, a panel or chip that is not sound.
+#[derive(Clone, Copy, PartialEq, Eq)]
+pub enum Refusal {
+    Cut = 8,
+    Size = 9,
+    Unsound = 10,
+}
+
+impl Refusal {
+    pub fn number(self) -> u8
+        ensures { result ≡ refusal_number self }
+    {
+        self as u8
     }
 }

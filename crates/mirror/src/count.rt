@@ -11,10 +11,11 @@ pub const COUNTS: usize = 9;
 pub fn raise(n: u64) -> u64
     ensures { result ≡ raised n }
 {
-    if n < u64::MAX { n + 1 } else { n }
+    n.saturating_add(1)
 }
 
 // The count of an answer, raised.
+#[tactic(auto, unfolding(crate::specs::Run::tallied))]
 pub fn tally(counts: &mut [u64; COUNTS], answer: Answer)
     ensures { counts.new ≡ tallied counts.old answer }
 {

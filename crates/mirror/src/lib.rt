@@ -2,12 +2,11 @@
 #![tactic(auto)]
 
 pub mod answer;
+mod bus;
 pub mod count;
-mod flat;
 pub mod half;
 mod live;
 pub mod panel;
-mod part;
 pub mod reading;
 pub mod record;
 pub mod stream;

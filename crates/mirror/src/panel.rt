@@ -5,6 +5,12 @@ ghost use Rattle.mirror.specs.Panel.{fresh_panel, half_fits, sound_panel};
 use crate::half::Half;
 use chip::sheet::Sheet;
 
+// Times are below it.
+const TIME_END: u64 = 1 << 48;
+
+// A busy end is at most the longest span after such a time.
+const BUSY_END: u64 = TIME_END + 65536;
+
 // Microseconds.
 #[derive(Clone, Copy)]
 pub struct Times {
@@ -29,25 +35,8 @@ impl Half {
     {
         match self {
             Half::Empty => true,
-            Half::Ignored { rs, rw } => {
-                if eight {
-                    return false;
-                }
-                if rs {
-                    return true;
-                }
-                !rw
-            }
-            Half::Waiting {
-                rs: _,
-                rw: _,
-                nibble,
-            } => {
-                if eight {
-                    return false;
-                }
-                nibble < 16
-            }
+            Half::Ignored { rs, rw } => !eight && (rs || !rw),
+            Half::Waiting { nibble, .. } => !eight && nibble < 16,
         }
     }
 }
@@ -69,18 +58,9 @@ impl Panel {
     pub fn sound(self) -> bool
         ensures { result ≡ sound_panel self }
     {
-        let s = self.sheet;
-        let r = s.registers;
-        let h = self.half;
-        if !s.sound() {
-            return false;
-        }
-        if !h.fits(r.eight) {
-            return false;
-        }
-        if 281474976710656 <= self.last {
-            return false;
-        }
-        self.busy < 281474976776192
+        self.sheet.sound()
+            && self.half.fits(self.sheet.registers.eight)
+            && self.last < TIME_END
+            && self.busy < BUSY_END
     }
 }

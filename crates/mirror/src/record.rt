@@ -14,6 +14,7 @@ pub struct Recorded {
 }
 
 impl Panel {
+    #[tactic(auto, using(crate::specs::laws::TableLaws::records, crate::specs::laws::TableLaws::answered_sound, crate::specs::laws::TableLaws::refused_unsound))]
     pub fn record(self, log: &[u8]) -> Recorded
         ensures { Records self log.now result }
     {

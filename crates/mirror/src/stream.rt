@@ -5,15 +5,15 @@ ghost use Rattle.mirror.specs.Stream.{start_of, panel_in, number_in, waiting_byt
 ghost use Rattle.framing.specs.Carry.{filled_of};
 ghost use Rattle.mirror.specs.engine.Read.{totals_read, read_of};
 ghost use Rattle.mirror.specs.engine.Reading.{stopped_of};
-ghost use Rattle.mirror.specs.Promise.{Replies, Runs, end_number, run_number};
+ghost use Rattle.mirror.specs.Promise.{Replies, Runs, end_refusal, run_refusal};
 
-use crate::answer::Answer;
+use crate::answer::{Refusal, Verdict};
 use crate::count::{COUNTS, raise};
 use crate::panel::Panel;
 use crate::reading::Reading;
 use crate::totals::Totals;
 use chip::sizes::{DISPLAY_SIZE, ONE_LINE, PATTERN_SIZE};
-use framing::carry::{Carry, Filled, carried};
+use framing::carry::{Carry, Filled};
 use framing::flaw::Flaw;
 use framing::frame::Frame;
 use framing::front::wants_more;
@@ -25,9 +25,8 @@ pub struct Stream {
     carry: Carry,
     // A cut was met: nothing more is read.
     over: bool,
-    // The panel handed in, and whether it was refused.
-    given: Panel,
-    refused: bool,
+    // The panel handed in, where it was refused.
+    refused: Option<Panel>,
 }
 
 #[derive(Clone, Copy)]
@@ -41,51 +40,50 @@ pub struct Run {
 
 // What a call for one answer comes to: the answer; more bytes wanted; a cut, or a panel that was refused: these two are final.
 #[derive(Clone, Copy)]
-pub enum Reply {
-    Answered { answer: Answer, byte: u8 },
+pub enum Reply<T> {
+    Answered(T),
     More,
     Cut,
     Refused,
 }
 
-// The stream after it, and how many bytes of the part were taken.
+// What was asked as it is after the call, and how many bytes of the part were taken.
 #[derive(Clone, Copy)]
-pub struct Next {
-    pub stream: Stream,
+pub struct Next<S, T> {
+    pub after: S,
     pub taken: usize,
-    pub reply: Reply,
+    pub reply: Reply<T>,
 }
 
 // A record, and what is wrong with it where it is bad.
 #[derive(Clone, Copy)]
 pub struct Front {
     pub frame: Frame,
-    pub flaw: Flaw,
+    pub flaw: Option<Flaw>,
 }
 
-impl Reply {
-    // The number of the answer that ends a reading, 8 or 10; 0 where it goes on.
-    pub fn refusal(self) -> u8
-        ensures { result ≡ end_number self }
+impl<T: Copy> Reply<T> {
+    // What ends a reading; none where it goes on.
+    pub fn refusal(self) -> Option<Refusal>
+        ensures { result ≡ end_refusal self }
     {
         match self {
-            Reply::Answered { answer: _, byte: _ } => 0,
-            Reply::More => 0,
-            Reply::Cut => 8,
-            Reply::Refused => 10,
+            Reply::Answered(_) | Reply::More => None,
+            Reply::Cut => Some(Refusal::Cut),
+            Reply::Refused => Some(Refusal::Unsound),
         }
     }
 }
 
 impl Run {
-    // The number of the answer that ended it, 8 or 10; 0 where it was read to its end.
-    pub fn refusal(self) -> u8
-        ensures { result ≡ run_number self }
+    // What ended it; none where it was read to its end.
+    pub fn refusal(self) -> Option<Refusal>
+        ensures { result ≡ run_refusal self }
     {
         if self.refused {
-            return 10;
+            return Some(Refusal::Unsound);
         }
-        if self.cut { 8 } else { 0 }
+        if self.cut { Some(Refusal::Cut) } else { None }
     }
 }
 
@@ -98,16 +96,14 @@ impl Stream {
                 totals: Totals::start(panel),
                 carry: Carry::empty(),
                 over: false,
-                given: panel,
-                refused: false,
+                refused: None,
             };
         }
         Stream {
             totals: Totals::start(Panel::fresh(ONE_LINE, 0, 0, 0)),
             carry: Carry::empty(),
             over: false,
-            given: panel,
-            refused: true,
+            refused: Some(panel),
         }
     }
 
@@ -115,35 +111,30 @@ impl Stream {
     pub fn panel(self) -> Panel
         ensures { result ≡ panel_in self }
     {
-        if self.refused {
-            return self.given;
-        }
-        let totals = self.totals;
-        totals.panel
+        self.refused.unwrap_or(self.totals.panel)
     }
 
     // The number of the record that comes next, counted from 1.
     pub fn number(self) -> u64
         ensures { result ≡ number_in self }
     {
-        let totals = self.totals;
-        raise(totals.records)
+        raise(self.totals.records)
     }
 
     // The record that the bytes waiting and the part make whole.
+    #[tactic(auto, using(crate::specs::laws::StreamLaws::front_read))]
     pub fn front(self, part: &[u8]) -> Front
         ensures { result ≡ front_of self part.now }
     {
-        let carry = self.carry;
-        let filled = carry.wanting().fill(part);
-        let head = filled.carry;
+        let filled = self.gathered(part);
         Front {
-            frame: head.frame(),
-            flaw: head.flaw(),
+            frame: filled.carry.frame(),
+            flaw: filled.carry.flaw(),
         }
     }
 
     // With these totals, and this tail unread.
+    #[tactic(auto, using(crate::specs::laws::StreamLaws::rested_wants, crate::specs::laws::StreamLaws::keeps_wanting))]
     fn rest(self, totals: Totals, tail: &[u8]) -> Stream
         ensures { result ≡ rested_of self totals tail.now }
     {
@@ -165,49 +156,43 @@ impl Stream {
     }
 
     // A part of any size, empty too: the records that are then whole are answered.
+    #[tactic(auto, using(crate::specs::laws::ReadLaws::gathered_within))]
     pub fn feed(self, part: &[u8]) -> Stream
         ensures { result ≡ feed_of self part.now }
     {
         if self.over {
             return self;
         }
-        let totals = self.totals;
-        let carry = self.carry;
-        let filled = carry.wanting().fill(part);
-        let head = filled.carry;
-        let bytes = head.bytes;
-        let held = carried(bytes, head.len);
-        let first = totals.consume(&bytes[..held]);
-        let before = first.totals;
+        let filled = self.gathered(part);
+        let held = filled.carry.bytes();
+        let first = self.totals.consume(held);
         if first.at == 0 {
-            return self.rest(before, &bytes[..held]);
+            return self.rest(first.totals, held);
         }
-        let taken = filled.taken;
-        let second = before.consume(&part[taken..]);
-        let after = second.totals;
-        let at = taken + second.at;
-        self.rest(after, &part[at..])
+        let second = first.totals.consume(&part[filled.taken..]);
+        let at = filled.taken + second.at;
+        self.rest(second.totals, &part[at..])
     }
 
     // No record is answered: a cut was met, or more bytes are wanted.
-    fn stopped(self, taken: usize) -> Next
+    fn stopped(self, taken: usize) -> Next<Stream, Verdict>
         ensures { result ≡ stopped_of self taken }
     {
         let reply = if self.over { Reply::Cut } else { Reply::More };
         Next {
-            stream: self,
+            after: self,
             taken,
             reply,
         }
     }
 
     // The next record alone: no more of the part is taken than it needs.
-    pub fn next(self, part: &[u8]) -> Next
+    pub fn next(self, part: &[u8]) -> Next<Stream, Verdict>
         ensures { Replies self part.now result }
     {
-        if self.refused {
+        if self.refused.is_some() {
             return Next {
-                stream: self,
+                after: self,
                 taken: 0,
                 reply: Reply::Refused,
             };
@@ -215,26 +200,19 @@ impl Stream {
         if self.over {
             return self.stopped(0);
         }
-        let totals = self.totals;
-        let carry = self.carry;
-        let filled = carry.wanting().fill(part);
-        let taken = filled.taken;
-        let head = filled.carry;
-        let bytes = head.bytes;
-        let held = carried(bytes, head.len);
-        let panel = totals.panel;
-        let r = panel.turned(&bytes[..held]);
+        let filled = self.gathered(part);
+        let held = filled.carry.bytes();
+        let r = self.totals.panel.turned(held);
         if r.used == 0 {
-            return self.rest(totals, &bytes[..held]).stopped(taken);
+            return self.rest(self.totals, held).stopped(filled.taken);
         }
-        let answer = r.answer;
         Next {
-            stream: self.rest(totals.count(r), &bytes[..0]),
-            taken,
-            reply: Reply::Answered {
-                answer,
+            after: self.rest(self.totals.count(r), &[]),
+            taken: filled.taken,
+            reply: Reply::Answered(Verdict {
+                answer: r.answer,
                 byte: r.byte,
-            },
+            }),
         }
     }
 
@@ -242,18 +220,15 @@ impl Stream {
     pub fn ended(self) -> bool
         ensures { result ≡ ended_of self }
     {
-        if self.refused {
-            return true;
-        }
-        self.over
+        self.refused.is_some() || self.over
     }
 
     // The bytes waiting, with just those of the part that make their record whole.
+    #[tactic(auto, using(crate::specs::laws::StreamLaws::gathers))]
     pub fn gathered(self, part: &[u8]) -> Filled
         ensures { result ≡ filled_of (waiting_bytes self) part.now }
     {
-        let carry = self.carry;
-        carry.wanting().fill(part)
+        self.carry.wanting().fill(part)
     }
 
     // What was read of it, record by record, with this tail unread. A panel that is not sound is refused, whoever put it
@@ -269,37 +244,30 @@ impl Stream {
         ensures { result ≡ read_of self (totals_read reading display pattern counts) tail.now }
     {
         let totals = reading.totals(display, pattern, counts);
-        let panel = totals.panel;
-        if panel.sound() {
+        if totals.panel.sound() {
             return self.rest(totals, tail);
         }
-        Stream::start(panel)
+        Stream::start(totals.panel)
     }
 
     // The end of the log.
     pub fn end(self) -> Run
         ensures { result ≡ end_of self }
     {
-        let totals = self.totals;
-        let records = totals.records;
-        if self.refused {
-            let given = self.given;
+        if let Some(given) = self.refused {
             return Run {
                 panel: given,
                 counts: [0; COUNTS],
-                records,
+                records: self.totals.records,
                 cut: false,
                 refused: true,
             };
         }
-        let panel = totals.panel;
-        let counts = totals.counts;
-        let carry = self.carry;
         Run {
-            panel,
-            counts,
-            records,
-            cut: self.over || 0 < carry.len,
+            panel: self.totals.panel,
+            counts: self.totals.counts,
+            records: self.totals.records,
+            cut: self.over || !self.carry.bytes().is_empty(),
             refused: false,
         }
     }
@@ -307,6 +275,7 @@ impl Stream {
 
 impl Panel {
     // A whole log.
+    #[tactic(auto, using(crate::specs::laws::NextLaws::runs, crate::specs::laws::StreamLaws::feed_run))]
     pub fn run(self, log: &[u8]) -> Run
         ensures { Runs self log.now result }
     {

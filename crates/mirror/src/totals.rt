@@ -3,11 +3,9 @@ ghost use Rattle.std.specs.Prelude.{◌≡◌};
 ghost use Rattle.mirror.specs.Run.{started, counted};
 ghost use Rattle.mirror.specs.engine.Reading.{consumed_of};
 
-use crate::answer::Answer;
 use crate::count::{COUNTS, raise, tally};
-use crate::live::Live;
 use crate::panel::Panel;
-use crate::part::{added, bump, plus};
+use crate::reading::Reading;
 use crate::record::Recorded;
 
 // The panel, the counts, each at its answer's place, and the number of records.
@@ -38,50 +36,31 @@ impl Totals {
     }
 
     // One record more, answered so.
-    pub(crate) fn count(self, r: Recorded) -> Totals
+    pub(crate) fn count(mut self, r: Recorded) -> Totals
         ensures { result ≡ counted self r }
     {
-        let panel = r.panel;
-        let answer = r.answer;
-        let mut counts = self.counts;
-        tally(&mut counts, answer);
-        Totals {
-            panel,
-            counts,
-            records: raise(self.records),
-        }
+        self.panel = r.panel;
+        tally(&mut self.counts, r.answer);
+        self.records = raise(self.records);
+        self
     }
 
     // Every whole record at the front of the log, one after the other.
     pub(crate) fn consume(self, log: &[u8]) -> Consumed
         ensures { result ≡ consumed_of self log.now }
     {
-        let panel = self.panel;
-        let sheet = panel.sheet;
-        let times = panel.times;
-        let mut display = sheet.display;
-        let mut pattern = sheet.pattern;
-        let counts = self.counts;
-        let mut part = [0u64; COUNTS];
-        let mut records: u64 = 0;
-        let mut live = Live::of(panel);
+        let mut display = self.panel.sheet.display;
+        let mut pattern = self.panel.sheet.pattern;
+        let mut counts = self.counts;
+        let mut reading = Reading::of(self.panel, self.records);
         let mut at: usize = 0;
         loop {
-            live = live.turn(times, &log[at..], &mut display, &mut pattern);
-            let used = live.used;
+            reading.next(&log[at..], &mut display, &mut pattern, &mut counts);
+            let used = reading.used();
             if used == 0 {
-                return Consumed {
-                    totals: Totals {
-                        panel: live.panel(times, display, pattern),
-                        counts: added(counts, part),
-                        records: plus(self.records, records),
-                    },
-                    at,
-                };
+                let totals = reading.totals(display, pattern, counts);
+                return Consumed { totals, at };
             }
-            let answer = live.answer;
-            bump(&mut part, answer);
-            records += 1;
             at += used;
         }
     }

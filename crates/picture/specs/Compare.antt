@@ -1,14 +1,24 @@
 -- What a comparison answers (document 01, "The picture", "Answer numbers"; of two lines, document 02, wish 1).
-use Rattle.std.specs.Prelude.{ℕ, ◌<◌, ◌≡◌, Bool, not, List, eqb, length}
+use Rattle.std.specs.Prelude.{ℕ, ◌<◌, ◌≡◌, Bool, not, List, eqb, length, Some, None, Result, Ok, Err}
+use Rattle.std.specs.Prelude as code
 use Rattle.std.proofs.Math.Option.{Option, none, some}
 use Rattle.laws.specs.Pick.{pick}
 use Rattle.dots.specs.Landing.{dot}
 use Rattle.dots.specs.First.{first_dot, Before}
 use Rattle.chip.specs.Sizes.{is_known}
 use Rattle.picture.specs.Frame.{glass}
-use Rattle.mirror.specs.Refusal.{numbered}
-use Rattle.picture.specs.declared.compare.Compared.{Compared}
-use Rattle.picture.specs.declared.compare.Compared.TheVariants.{At, Same, Size, Unknown}
+use Rattle.mirror.specs.Refusal.{refusal_number}
+use Rattle.mirror.specs.declared.answer.Refusal.{Refusal}
+use Rattle.mirror.specs.declared.answer.Refusal.TheVariants.{Size, Unsound}
+use Rattle.picture.specs.declared.frame.Dot.{Dot}
+
+-- the first dot that differs, if one does, or a refusal
+abbrev pub Compared : Type 0
+Compared = Result (code.Option Dot) Refusal
+
+-- the dot (r, x) is the first that differs
+abbrev pub differs_at : ℕ → ℕ → Compared
+differs_at r x = Ok (Some (record { row = r; column = x }))
 
 -- this paper's number of an answer, none where nothing was refused, and the place found, by row and column
 pub record ComparePaper : Type 0 where
@@ -16,13 +26,9 @@ pub record ComparePaper : Type 0 where
   pub place : Option (ℕ × ℕ)
 
 abbrev pub compare_paper : Compared → ComparePaper
-compare_paper (At r x) = record { number = none; place = some (r, x) }
-compare_paper Same = record { number = none; place = none }
-compare_paper Size = record { number = some 9; place = none }
-compare_paper Unknown = record { number = some 10; place = none }
-
-abbrev pub compare_refusal : Compared → ℕ
-compare_refusal answer = numbered (compare_paper answer).number
+compare_paper (Ok (Some d)) = record { number = none; place = some (d.row, d.column) }
+compare_paper (Ok None) = record { number = none; place = none }
+compare_paper (Err refusal) = record { number = some (refusal_number refusal); place = none }
 
 -- the two frames of a chip differ at the dot (r, x)
 abbrev pub differ : ℕ → List ℕ → List ℕ → ℕ → ℕ → Bool
@@ -42,9 +48,9 @@ place_for none chip a b = first_dot (differ chip a b) (λ r x. some (r, x)) none
 -- 10 before 9; otherwise the first dot, by rows, at which two frames differ, or that none does
 abbrev pub compared_of : ℕ → List ℕ → List ℕ → Compared
 compared_of chip a b =
-    pick (not (is_known chip)) Unknown
-    (pick (not (eqb (length a) (glass chip).size)) Size
-    (pick (not (eqb (length b) (glass chip).size)) Size (first_dot (differ chip a b) At Same (glass chip).cols 0 (glass chip).rows)))
+    pick (not (is_known chip)) (Err Unsound)
+    (pick (not (eqb (length a) (glass chip).size)) (Err Size)
+    (pick (not (eqb (length b) (glass chip).size)) (Err Size) (first_dot (differ chip a b) differs_at (Ok None) (glass chip).cols 0 (glass chip).rows)))
 
 -- all that a comparison says: the answer, and its number and place on paper
 pub record Compares (chip : ℕ) (a b : List ℕ) (answer : Compared) : Type 0 where
@@ -64,7 +70,6 @@ SameDots chip a b = (r x : ℕ) → r < (glass chip).rows → x < (glass chip).c
 
 -- what each answer to two frames of a known chip's size means
 unfoldable pub Means : ℕ → List ℕ → List ℕ → Compared → Type 0
-Means chip a b (At r x) = FirstDifference chip a b r x
-Means chip a b Same = SameDots chip a b
-Means chip a b Size = ⊥
-Means chip a b Unknown = ⊥
+Means chip a b (Ok (Some d)) = FirstDifference chip a b d.row d.column
+Means chip a b (Ok None) = SameDots chip a b
+Means chip a b (Err refusal) = ⊥

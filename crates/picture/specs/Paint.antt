@@ -1,5 +1,5 @@
 -- What a painting answers and the frame it leaves (document 01, "The picture", "Answer numbers"; of two lines and mirrored glass, document 02, wishes 1 and 5).
-use Rattle.std.specs.Prelude.{ℕ, ◌≡◌, Bool, not, List, eqb, length}
+use Rattle.std.specs.Prelude.{ℕ, ◌≡◌, Bool, not, List, eqb, length, Result, Ok, Err}
 use Rattle.std.proofs.Math.Option.{Option, none, some}
 use Rattle.laws.specs.Pick.{pick}
 use Rattle.dots.specs.Landing.{Landing, dots_frame, count_of}
@@ -8,9 +8,13 @@ use Rattle.mirror.specs.declared.panel.Panel.{Panel}
 use Rattle.picture.specs.Pattern.{font_size}
 use Rattle.picture.specs.Mode.{glass_for}
 use Rattle.picture.specs.Picture.{lit}
-use Rattle.mirror.specs.Refusal.{numbered}
-use Rattle.picture.specs.declared.paint.Painted.{Painted}
-use Rattle.picture.specs.declared.paint.Painted.TheVariants.{Lit, Size, Unsound}
+use Rattle.mirror.specs.Refusal.{refusal_number}
+use Rattle.mirror.specs.declared.answer.Refusal.{Refusal}
+use Rattle.mirror.specs.declared.answer.Refusal.TheVariants.{Size, Unsound}
+
+-- how many dots are lit, or a refusal
+abbrev pub Painted : Type 0
+Painted = Result ℕ Refusal
 
 -- this paper's number of an answer, none where nothing was refused, and its lit dots
 pub record PaintPaper : Type 0 where
@@ -18,12 +22,8 @@ pub record PaintPaper : Type 0 where
   pub dots : ℕ
 
 abbrev pub paint_paper : Painted → PaintPaper
-paint_paper (Lit n) = record { number = none; dots = n }
-paint_paper Size = record { number = some 9; dots = 0 }
-paint_paper Unsound = record { number = some 10; dots = 0 }
-
-abbrev pub paint_refusal : Painted → ℕ
-paint_refusal answer = numbered (paint_paper answer).number
+paint_paper (Ok dots) = record { number = none; dots = dots }
+paint_paper (Err refusal) = record { number = some (refusal_number refusal); dots = 0 }
 
 -- the glass of the panel's own chip, in the panel's own mode
 abbrev pub glass_of : Panel → Landing
@@ -43,9 +43,9 @@ dots_for none panel font dark = count_of (glass_of panel) (lit panel.sheet font 
 -- 10 before 9; otherwise how many dots are lit
 abbrev pub painted_of : Panel → List ℕ → Bool → List ℕ → Painted
 painted_of panel font dark frame =
-    pick (not (sound_panel panel)) Unsound
-    (pick (not (eqb (length font) font_size)) Size
-    (pick (not (eqb (length frame) (glass_of panel).size)) Size (Lit (count_of (glass_of panel) (lit panel.sheet font dark)))))
+    pick (not (sound_panel panel)) (Err Unsound)
+    (pick (not (eqb (length font) font_size)) (Err Size)
+    (pick (not (eqb (length frame) (glass_of panel).size)) (Err Size) (Ok (count_of (glass_of panel) (lit panel.sheet font dark)))))
 
 -- a refused painting leaves every byte as it was; otherwise the lit dots are 1 and all other bits 0
 abbrev pub frame_after : Panel → List ℕ → Bool → List ℕ → List ℕ

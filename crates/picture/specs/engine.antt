@@ -1,2 +1,4 @@
 pub mod Wiring
 pub mod Shown
+pub mod Canvas
+pub mod Scene

@@ -1,59 +1,31 @@
 // The comparison of two frames.
 ghost use Rattle.std.specs.Prelude.{◌≡◌};
-ghost use Rattle.picture.specs.Compare.{Compares, compare_refusal};
+ghost use Rattle.picture.specs.Compare.{Compares};
 
-use crate::frame::{COLUMNS, dot_at, frame_size, rows};
+pub use crate::frame::Dot;
+use crate::frame::{COLUMNS, Glass, rows};
 use chip::sizes::known;
+use mirror::answer::Refusal;
 
-#[derive(Clone, Copy)]
-pub enum Compared {
-    // The first dot, by rows, at which the frames differ.
-    At { row: usize, column: usize },
-    // No dot differs.
-    Same,
-    // A frame of another size than the chip's.
-    Size,
-    // A chip that is not known.
-    Unknown,
-}
-
-impl Compared {
-    // This paper's number of a refusal, 0 where nothing was refused.
-    pub fn refusal(self) -> u8
-        ensures { result ≡ compare_refusal self }
-    {
-        match self {
-            Compared::At { row: _, column: _ } => 0,
-            Compared::Same => 0,
-            Compared::Size => 9,
-            Compared::Unknown => 10,
-        }
-    }
-}
-
-// Compares two frames of a chip.
-pub fn compare(chip: u8, a: &[u8], b: &[u8]) -> Compared
+// Compares two frames of a chip: answers the first dot, by rows, at which they differ, if there is one.
+pub fn compare(chip: u8, a: &[u8], b: &[u8]) -> Result<Option<Dot>, Refusal>
     ensures { Compares chip a.now b.now result }
 {
     if !known(chip) {
-        return Compared::Unknown;
+        return Err(Refusal::Unsound);
     }
-    let size = frame_size(chip);
-    if a.len() != size {
-        return Compared::Size;
-    }
-    if b.len() != size {
-        return Compared::Size;
-    }
-    let high = rows(chip);
-    let mut found = Compared::Same;
-    'rows: for row in 0..high {
+    let one = Glass::of(chip, a)?;
+    let other = Glass::of(chip, b)?;
+    let mut found = None;
+    // A loop within a loop, left by a label: a form that the rules name.
+    'rows: for row in 0..rows(chip) {
         for column in 0..COLUMNS {
-            if dot_at(chip, a, row, column) != dot_at(chip, b, row, column) {
-                found = Compared::At { row, column };
+            let at = Dot { row, column };
+            if one.lit(at) != other.lit(at) {
+                found = Some(at);
                 break 'rows;
             }
         }
     }
-    found
+    Ok(found)
 }

@@ -6,7 +6,7 @@ ghost use Rattle.picture.specs.Frame.{most_frame_size};
 fn byte_ones(byte: u8) -> u16
     ensures { ByteOnes byte result }
 {
-    u8::count_ones(byte) as u16
+    byte.count_ones() as u16
 }
 
 // The sum has 16 bits, so that the compiler counts eight bytes at a time.
@@ -14,9 +14,6 @@ pub(crate) fn ones(frame: &[u8]) -> usize
     requires { length frame.now ≤ most_frame_size }
     ensures { result ≡ ones_of frame.now }
 {
-    let mut lit: u16 = 0;
-    for i in 0..frame.len() {
-        lit += byte_ones(frame[i]);
-    }
+    let lit: u16 = frame.iter().map(|byte| byte_ones(*byte)).sum();
     lit as usize
 }

@@ -1,17 +1,16 @@
 // Where the cursor stands on the screen, and whether it is shown.
 ghost use Rattle.std.specs.Prelude.{◌≡◌};
-ghost use Rattle.picture.specs.Cursor.{cursor_here, cursor_of, line_of, position_of};
+ghost use Rattle.picture.specs.Cursor.{cursor_here, cursor_of, line_of, position_of, spot_of};
 
 use chip::address::Address;
 use chip::registers::Registers;
 use chip::sizes::{POSITIONS, lines};
 
-#[derive(Clone, Copy)]
-pub enum Cursor {
-    // No cursor is shown.
-    Off,
-    // It is shown on a line at a position.
-    At { line: usize, position: usize },
+// A place on the screen.
+#[derive(Clone, Copy, PartialEq, Eq)]
+pub struct Spot {
+    pub line: usize,
+    pub position: usize,
 }
 
 // The screen line of an address. Here and in `position` alone a pattern address counts as a place on the screen.
@@ -29,26 +28,26 @@ pub fn position(chip: u8, address: Address, shift: u8) -> usize
     (address.number(chip) as usize + (POSITIONS - shift)) % POSITIONS
 }
 
-// Whether the cursor's place, shown or not, is this position of this line.
-pub(crate) fn here(registers: Registers, on: usize, at: usize) -> bool
-    ensures { result ≡ cursor_here registers on at }
+// The cursor's place, shown or not.
+pub(crate) fn place(registers: Registers) -> Spot
+    ensures { result ≡ spot_of registers }
 {
-    let address = registers.address;
-    let chip = registers.chip;
-    (on == line(chip, address)) & (at == position(chip, address, registers.shift))
+    Spot {
+        line: line(registers.chip, registers.address),
+        position: position(registers.chip, registers.address, registers.shift),
+    }
+}
+
+// Whether the cursor's place, shown or not, is this one.
+pub(crate) fn here(registers: Registers, at: Spot) -> bool
+    ensures { result ≡ cursor_here registers at.line at.position }
+{
+    at == place(registers)
 }
 
 // The cursor that the registers show, as a row of dots or as a blink.
-pub fn shown(registers: Registers) -> Cursor
+pub fn shown(registers: Registers) -> Option<Spot>
     ensures { result ≡ cursor_of registers }
 {
-    let address = registers.address;
-    let chip = registers.chip;
-    if registers.on & (registers.cursor | registers.blink) {
-        return Cursor::At {
-            line: line(chip, address),
-            position: position(chip, address, registers.shift),
-        };
-    }
-    Cursor::Off
+    (registers.on & (registers.cursor | registers.blink)).then_some(place(registers))
 }

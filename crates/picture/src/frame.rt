@@ -1,14 +1,12 @@
 // The frame of a chip: 8 rows of 80 dots for each of its lines, and where each dot lands.
-ghost use Rattle.std.specs.Prelude.{◌≡◌, ◌<◌, length, replicate};
+ghost use Rattle.std.specs.Prelude.{◌≡◌, ◌≢◌, eqb, length, MatchResult};
 ghost use Rattle.dots.specs.Landing.{dot};
-ghost use Rattle.dots.specs.engine.Cells.{put};
 ghost use Rattle.picture.specs.Frame.{FrameSize, Rows, glass, lit_at};
-ghost use Rattle.picture.specs.engine.Shown.{Lands};
-ghost use Rattle.picture.specs.engine.Wiring.{wired};
+ghost use Rattle.picture.specs.engine.Shown.{Inside, Lands};
 
-use crate::mode::{Wiring, column_on, row_on};
 use crate::pattern::{TALL, WIDE};
 use chip::sizes::{MOST_LINES, POSITIONS, lines};
+use mirror::answer::Refusal;
 
 pub const COLUMNS: usize = POSITIONS * WIDE;
 
@@ -17,6 +15,14 @@ const ROW_BYTES: usize = COLUMNS / 8;
 // The bytes of the largest frame.
 pub const MOST_FRAME_SIZE: usize = MOST_LINES * TALL * ROW_BYTES;
 
+// A dot, of a frame or of the picture.
+#[derive(Clone, Copy, PartialEq, Eq)]
+pub struct Dot {
+    pub row: usize,
+    pub column: usize,
+}
+
+// Where a dot lies: its byte, and which bit of that.
 #[derive(Clone, Copy)]
 pub struct Place {
     pub byte: usize,
@@ -38,24 +44,43 @@ pub fn frame_size(chip: u8) -> usize
 }
 
 // Where a dot of the frame lands; of the picture too, in mode A.
-pub(crate) fn landing(chip: u8, row: usize, column: usize) -> Place
-    requires { (row < (glass chip).rows) × (column < (glass chip).cols) }
-    ensures { Lands chip row column result }
+pub(crate) fn landing(chip: u8, at: Dot) -> Place
+    requires { Inside (glass chip) at }
+    ensures { Lands chip at.row at.column result }
 {
     Place {
-        byte: row * ROW_BYTES + column / 8,
-        bit: 7 - column % 8,
+        byte: at.row * ROW_BYTES + at.column / 8,
+        bit: 7 - at.column % 8,
     }
 }
 
-// One dot of a frame, 0 or 1.
-pub(crate) fn dot_at(chip: u8, frame: &[u8], row: usize, column: usize) -> u8
-    requires { (length frame.now ≡ (glass chip).size) × (row < (glass chip).rows) × (column < (glass chip).cols) }
-    ensures { result ≡ dot (glass chip) frame.now row column }
-{
-    let p = landing(chip, row, column);
-    let i = p.byte;
-    (frame[i] >> p.bit) & 1
+// A frame of the size that the chip's has, read as it lies.
+#[derive(Clone, Copy)]
+pub(crate) struct Glass<'a> {
+    chip: u8,
+    frame: &'a [u8],
+    ghost sized: { length frame.now ≡ (glass chip).size },
+}
+
+impl<'a> Glass<'a> {
+    // The frame as the chip's, where its size is.
+    pub(crate) fn of(chip: u8, frame: &'a [u8]) -> Result<Glass<'a>, Refusal>
+        ensures { MatchResult result (λ g. (g.chip ≡ chip) × (g.frame.now ≡ frame.now)) (λ refusal. (length frame.now ≢ (glass chip).size) × (refusal ≡ Refusal.Size)) }
+    {
+        if frame.len() != frame_size(chip) {
+            return Err(Refusal::Size);
+        }
+        Ok(Glass { chip, frame })
+    }
+
+    // Whether a dot is lit.
+    pub(crate) fn lit(&self, at: Dot) -> bool
+        requires { Inside (glass self.now.chip) at }
+        ensures { result ≡ eqb (dot (glass self.now.chip) self.now.frame.now at.row at.column) 1 }
+    {
+        let p = landing(self.chip, at);
+        (self.frame[p.byte] >> p.bit) & 1 == 1
+    }
 }
 
 // Whether a dot of a chip's frame is lit: none is outside, nor in a frame of another size. Whoever shows a frame reads it
@@ -63,35 +88,8 @@ pub(crate) fn dot_at(chip: u8, frame: &[u8], row: usize, column: usize) -> u8
 pub fn lit_at(chip: u8, frame: &[u8], row: usize, column: usize) -> bool
     ensures { result ≡ lit_at chip frame.now row column }
 {
-    if frame.len() != frame_size(chip) {
+    let Ok(glass) = Glass::of(chip, frame) else {
         return false;
-    }
-    if rows(chip) <= row {
-        return false;
-    }
-    if COLUMNS <= column {
-        return false;
-    }
-    dot_at(chip, frame, row, column) == 1
-}
-
-// Lights one dot of the picture where v is 1, in the place that it takes on the glass.
-pub(crate) fn put_dot(wiring: Wiring, frame: &mut [u8], row: usize, column: usize, v: u8)
-    requires { (length frame.old ≡ (wired wiring).size) × (row < (wired wiring).rows) × (column < (wired wiring).cols) × (v < 2) }
-    ensures { frame.new ≡ put (wired wiring) frame.old row column v }
-{
-    let p = landing(wiring.chip, row_on(wiring, row), column_on(wiring, column));
-    let i = p.byte;
-    frame[i] = frame[i] | (v << p.bit);
-}
-
-// Every bit 0.
-pub(crate) fn clear(chip: u8, frame: &mut [u8])
-    requires { length frame.old ≡ (glass chip).size }
-    ensures { frame.new ≡ replicate (glass chip).size 0 }
-{
-    let size = frame_size(chip);
-    for i in 0..size {
-        frame[i] = 0;
-    }
+    };
+    row < rows(chip) && column < COLUMNS && glass.lit(Dot { row, column })
 }

@@ -2,6 +2,7 @@
 // the painter, the count of lit dots and the comparison.
 #![tactic(auto)]
 
+mod canvas;
 pub mod compare;
 mod count;
 pub mod cursor;

@@ -8,7 +8,6 @@ ghost use Rattle.picture.specs.engine.Wiring.{Takes, wiring_of};
 use crate::frame::COLUMNS;
 use crate::pattern::TALL;
 use chip::registers::Registers;
-use chip::sheet::Sheet;
 use chip::sizes::lines;
 use mirror::panel::Panel;
 
@@ -19,38 +18,40 @@ pub(crate) struct Wiring {
     pub(crate) turned: bool,
 }
 
-// As the registers have it.
-pub(crate) fn wiring_of(registers: Registers) -> Wiring
-    ensures { result ≡ wiring_of registers }
-{
-    Wiring {
-        chip: registers.chip,
-        turned: registers.function & 1 == 1,
+impl Wiring {
+    // As the registers have it.
+    pub(crate) fn of(registers: Registers) -> Wiring
+        ensures { result ≡ wiring_of registers }
+    {
+        Wiring {
+            chip: registers.chip,
+            turned: registers.function & 1 == 1,
+        }
     }
-}
 
-// The row of the frame in which a row of the picture lies.
-pub(crate) fn row_on(wiring: Wiring, row: usize) -> usize
-    requires { row < (glass wiring.chip).rows }
-    ensures { Takes (row_turn wiring.chip wiring.turned) row result }
-{
-    if wiring.turned {
-        let last = lines(wiring.chip) - 1;
-        (last - row / TALL) * TALL + row % TALL
-    } else {
-        row
+    // The row of the frame in which a row of the picture lies.
+    pub(crate) fn row_on(self, row: usize) -> usize
+        requires { row < (glass self.chip).rows }
+        ensures { Takes (row_turn self.chip self.turned) row result }
+    {
+        if self.turned {
+            let last = lines(self.chip) - 1;
+            (last - row / TALL) * TALL + row % TALL
+        } else {
+            row
+        }
     }
-}
 
-// The column of the frame in which a column of the picture lies.
-pub(crate) fn column_on(wiring: Wiring, column: usize) -> usize
-    requires { column < (glass wiring.chip).cols }
-    ensures { Takes (column_turn wiring.chip wiring.turned) column result }
-{
-    if wiring.turned {
-        COLUMNS - 1 - column
-    } else {
-        column
+    // The column of the frame in which a column of the picture lies.
+    pub(crate) fn column_on(self, column: usize) -> usize
+        requires { column < (glass self.chip).cols }
+        ensures { Takes (column_turn self.chip self.turned) column result }
+    {
+        if self.turned {
+            COLUMNS - 1 - column
+        } else {
+            column
+        }
     }
 }
 
@@ -58,18 +59,7 @@ pub(crate) fn column_on(wiring: Wiring, column: usize) -> usize
 pub fn upright(panel: Panel) -> Panel
     ensures { result ≡ upright_of panel }
 {
-    let sheet = panel.sheet;
-    let registers = sheet.registers;
-    let in_mode_a = Registers {
-        function: registers.function / 2 * 2,
-        ..registers
-    };
-    let shown = Sheet {
-        registers: in_mode_a,
-        ..sheet
-    };
-    Panel {
-        sheet: shown,
-        ..panel
-    }
+    let mut shown = panel;
+    shown.sheet.registers.function = panel.sheet.registers.function / 2 * 2;
+    shown
 }

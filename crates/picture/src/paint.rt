@@ -1,159 +1,127 @@
 // The painter. It goes by cells, dot by dot.
-ghost use Rattle.std.specs.Prelude.{◌≡◌, ◌+◌, ◌≤◌, ◌<◌, length};
+ghost use Rattle.std.specs.Prelude.{◌≡◌, ◌<◌, length, replicate};
 ghost use Rattle.chip.specs.Sizes.{lines_of};
-ghost use Rattle.picture.specs.Pattern.{tall, wide, font_size, patterns_of};
+ghost use Rattle.picture.specs.Pattern.{patterns_of, shape_of};
 ghost use Rattle.picture.specs.Mode.{glass_for};
-ghost use Rattle.picture.specs.engine.Shown.{cell_put, column_put, line_put, page_put, shape_from, shown_of};
-ghost use Rattle.picture.specs.engine.Wiring.{wired};
-ghost use Rattle.picture.specs.Paint.{Paints, paint_refusal};
+ghost use Rattle.picture.specs.engine.Canvas.{Drawn};
+ghost use Rattle.picture.specs.engine.Shown.{line_put, page_put, shown_of};
+ghost use Rattle.picture.specs.engine.Wiring.{wiring_of};
+ghost use Rattle.picture.specs.Paint.{Paints};
 
+use crate::canvas::Canvas;
 use crate::count::ones;
-use crate::cursor::here;
-use crate::frame::{clear, frame_size, put_dot};
-use crate::mode::{Wiring, wiring_of};
-use crate::pattern::{FONT_SIZE, FONT_START, FULL, PATTERNS, TALL, WIDE, glyph, patterns};
-use crate::screen::code_at;
+use crate::cursor::{Spot, here};
+use crate::frame::frame_size;
+use crate::mode::Wiring;
+use crate::pattern::{FONT_SIZE, FONT_START, FULL, PATTERNS, TALL, font_of, glyph, patterns};
+use crate::screen::code_in;
 use chip::sheet::Sheet;
 use chip::sizes::{POSITIONS, lines};
+use mirror::answer::Refusal;
 use mirror::panel::Panel;
 
 const CURSOR_ROW: usize = 7;
 
+// What is painted: a sheet, its own four patterns, a font, and whether the blink is dark.
 #[derive(Clone, Copy)]
-pub enum Painted {
-    // How many dots are lit.
-    Lit(usize),
-    // A font or a frame of another size.
-    Size,
-    // A panel that is not sound.
-    Unsound,
+struct Scene<'a> {
+    sheet: Sheet,
+    own: [[u8; TALL]; PATTERNS],
+    font: &'a [u8; FONT_SIZE],
+    dark: bool,
+    ghost own_is: { own ≡ patterns_of sheet.pattern },
 }
 
-impl Painted {
-    // This paper's number of a refusal, 0 where nothing was refused.
-    pub fn refusal(self) -> u8
-        ensures { result ≡ paint_refusal self }
+impl<'a> Scene<'a> {
+    ghost use Rattle.picture.specs.engine.Scene.{IsScene};
+
+    fn new(sheet: Sheet, font: &'a [u8; FONT_SIZE], dark: bool) -> Scene<'a>
+        ensures { IsScene sheet font.now dark result }
     {
-        match self {
-            Painted::Lit(_) => 0,
-            Painted::Size => 9,
-            Painted::Unsound => 10,
+        Scene {
+            sheet,
+            own: patterns(sheet.pattern),
+            font,
+            dark,
         }
     }
-}
 
-// The pattern of a code; `own` are the four of the panel.
-fn shape(own: [[u8; TALL]; PATTERNS], font: &[u8], code: u8) -> [u8; TALL]
-    requires { length font.now ≡ font_size }
-    ensures { result ≡ shape_from own font.now code }
-{
-    if code < FONT_START {
-        let n = code as usize % PATTERNS;
-        own[n]
-    } else {
-        glyph(font, code)
+    // The pattern of a code.
+    fn shape(&self, code: u8) -> [u8; TALL]
+        ensures { result ≡ shape_of self.now.sheet.pattern self.now.font.now code }
+    {
+        if code < FONT_START {
+            self.own[code as usize % PATTERNS]
+        } else {
+            glyph(self.font, code)
+        }
     }
-}
 
-// The rows that a position of a line shows.
-fn shown(
-    sheet: Sheet,
-    own: [[u8; TALL]; PATTERNS],
-    font: &[u8],
-    dark: bool,
-    line: usize,
-    at: usize,
-) -> [u8; TALL]
-    requires { (own ≡ patterns_of sheet.pattern) × (length font.now ≡ font_size) }
-    ensures { result ≡ shown_of sheet font.now dark line at }
-{
-    let r = sheet.registers;
-    if !r.on {
-        return [0; TALL];
+    // The rows that a spot shows.
+    fn shown(&self, at: Spot) -> [u8; TALL]
+        ensures { result ≡ shown_of self.now.sheet self.now.font.now self.now.dark at.line at.position }
+    {
+        let registers = self.sheet.registers;
+        if !registers.on {
+            return [0; TALL];
+        }
+        let mut rows = self.shape(code_in(&self.sheet, at.line, at.position));
+        if !here(registers, at) {
+            return rows;
+        }
+        if registers.blink & self.dark {
+            return [FULL; TALL];
+        }
+        if registers.cursor {
+            rows[CURSOR_ROW] = FULL;
+        }
+        rows
     }
-    let mut rows = shape(own, font, code_at(sheet, line, at));
-    if !here(r, line, at) {
-        return rows;
-    }
-    if r.blink & dark {
-        return [FULL; TALL];
-    }
-    if r.cursor {
-        rows[CURSOR_ROW] = FULL;
-    }
-    rows
-}
 
-// Paints column c of a cell, whose upper left dot is (top, left).
-fn put_column(wiring: Wiring, frame: &mut [u8], top: usize, left: usize, rows: [u8; TALL], c: usize)
-    requires { (length frame.old ≡ (wired wiring).size) × (top + tall ≤ (wired wiring).rows) × (left + wide ≤ (wired wiring).cols) × (c < wide) }
-    ensures { frame.new ≡ column_put (wired wiring) rows top left c frame.old }
-{
-    for i in 0..TALL {
-        let v = (rows[i] >> (WIDE - 1 - c)) & 1;
-        put_dot(wiring, frame, top + i, left + c, v);
+    // Paints a line.
+    fn put_line(&self, canvas: &mut Canvas, line: usize)
+        requires { line < lines_of canvas.old.wiring.chip }
+        ensures { Drawn canvas.old canvas.new (line_put canvas.old.wiring self.now.sheet self.now.font.now self.now.dark line canvas.old.frame.now) }
+    {
+        for position in 0..POSITIONS {
+            let at = Spot { line, position };
+            canvas.put_cell(at, self.shown(at));
+        }
     }
-}
 
-// Paints a cell, whose upper left dot is (top, left): by columns, which is faster than by rows (docs/DECISIONS.md, "Speed").
-fn put_cell(wiring: Wiring, frame: &mut [u8], top: usize, left: usize, rows: [u8; TALL])
-    requires { (length frame.old ≡ (wired wiring).size) × (top + tall ≤ (wired wiring).rows) × (left + wide ≤ (wired wiring).cols) }
-    ensures { frame.new ≡ cell_put (wired wiring) rows top left frame.old }
-{
-    for c in 0..WIDE {
-        put_column(wiring, frame, top, left, rows, c);
+    // Paints every line.
+    fn put_lines(&self, canvas: &mut Canvas)
+        ensures { Drawn canvas.old canvas.new (page_put canvas.old.wiring self.now.sheet self.now.font.now self.now.dark canvas.old.frame.now) }
+    {
+        for line in 0..lines(canvas.wiring.chip) {
+            self.put_line(canvas, line);
+        }
     }
-}
 
-// Paints a line.
-fn put_line(
-    frame: &mut [u8],
-    sheet: Sheet,
-    own: [[u8; TALL]; PATTERNS],
-    font: &[u8],
-    dark: bool,
-    line: usize,
-)
-    requires { (length frame.old ≡ (glass_for sheet.registers).size) × (own ≡ patterns_of sheet.pattern) × (length font.now ≡ font_size) × (line < lines_of sheet.registers.chip) }
-    ensures { frame.new ≡ line_put sheet font.now dark line frame.old }
-{
-    let wiring = wiring_of(sheet.registers);
-    for p in 0..POSITIONS {
-        let rows = shown(sheet, own, font, dark, line, p);
-        put_cell(wiring, frame, line * TALL, p * WIDE, rows);
-    }
-}
-
-// Paints every line.
-fn put_lines(frame: &mut [u8], sheet: Sheet, font: &[u8], dark: bool)
-    requires { (length frame.old ≡ (glass_for sheet.registers).size) × (length font.now ≡ font_size) }
-    ensures { frame.new ≡ page_put sheet font.now dark frame.old }
-{
-    let memory = sheet.pattern;
-    let own = patterns(memory);
-    let count = lines(sheet.registers.chip);
-    for line in 0..count {
-        put_line(frame, sheet, own, font, dark, line);
+    // Paints the picture into a frame of the glass's size, whatever that held.
+    fn paint_on(&self, frame: &mut [u8])
+        requires { length frame.old ≡ (glass_for self.now.sheet.registers).size }
+        ensures { frame.new ≡ page_put (wiring_of self.now.sheet.registers) self.now.sheet self.now.font.now self.now.dark (replicate (glass_for self.now.sheet.registers).size 0) }
+    {
+        let wiring = Wiring::of(self.sheet.registers);
+        let mut canvas = Canvas { wiring, frame };
+        canvas.clear();
+        self.put_lines(&mut canvas);
     }
 }
 
 // Paints the panel's picture into the frame, with the blink dark or not; answers how many dots are lit. Where it refuses,
 // the frame stays as it was.
-pub fn paint(panel: Panel, font: &[u8], dark: bool, frame: &mut [u8]) -> Painted
+pub fn paint(panel: Panel, font: &[u8], dark: bool, frame: &mut [u8]) -> Result<usize, Refusal>
     ensures { Paints panel font.now dark frame.old result frame.new }
 {
     if !panel.sound() {
-        return Painted::Unsound;
+        return Err(Refusal::Unsound);
     }
-    if font.len() != FONT_SIZE {
-        return Painted::Size;
+    let font = font_of(font)?;
+    if frame.len() != frame_size(panel.sheet.registers.chip) {
+        return Err(Refusal::Size);
     }
-    let sheet = panel.sheet;
-    let chip = sheet.registers.chip;
-    if frame.len() != frame_size(chip) {
-        return Painted::Size;
-    }
-    clear(chip, frame);
-    put_lines(frame, sheet, font, dark);
-    Painted::Lit(ones(frame))
+    Scene::new(panel.sheet, font, dark).paint_on(frame);
+    Ok(ones(frame))
 }

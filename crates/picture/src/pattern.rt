@@ -1,9 +1,11 @@
 // A pattern is eight rows of five dots, read as one thing: an array by value.
-ghost use Rattle.std.specs.Prelude.{◌≡◌, ◌≤◌, length};
-ghost use Rattle.picture.specs.Pattern.{font_size, font_start, pattern_of, patterns_of, glyph_of};
+ghost use Rattle.std.specs.Prelude.{◌≡◌, ◌≢◌, ◌≤◌, ◌<◌, length, MatchResult};
+ghost use Rattle.picture.specs.Pattern.{font_size, font_start, glyph_of, glyph_row, pattern_of, patterns_of, tall};
 
 use chip::address::PatternAddress;
 use chip::sizes::{PATTERN_SIZE, ROW_END};
+use mirror::answer::Refusal;
+use std::array;
 
 // How many rows and columns a pattern has, and how many patterns pattern memory holds.
 pub const TALL: usize = 8;
@@ -25,13 +27,10 @@ pub fn pattern(memory: [u8; PATTERN_SIZE], number: u8) -> [u8; TALL]
     ensures { result ≡ pattern_of memory number }
 {
     let first = TALL * (number as usize % PATTERNS);
-    let mut rows = [0; TALL];
-    for r in 0..TALL {
-        rows[r] = PatternAddress((first + r) as u8).read(&memory);
-    }
-    rows
+    array::from_fn(|row| PatternAddress((first + row) as u8).read(&memory))
 }
 
+// All four, named: a closure over their numbers would have to narrow each.
 pub fn patterns(memory: [u8; PATTERN_SIZE]) -> [[u8; TALL]; PATTERNS]
     ensures { result ≡ patterns_of memory }
 {
@@ -43,15 +42,26 @@ pub fn patterns(memory: [u8; PATTERN_SIZE]) -> [[u8; TALL]; PATTERNS]
     ]
 }
 
-// The pattern of a code that the font has.
-pub(crate) fn glyph(font: &[u8], code: u8) -> [u8; TALL]
-    requires { (length font.now ≡ font_size) × (font_start ≤ code) }
-    ensures { result ≡ glyph_of font.now code }
+// A font, where the bytes are as many as one has.
+pub(crate) fn font_of(bytes: &[u8]) -> Result<&[u8; FONT_SIZE], Refusal>
+    ensures { MatchResult result (λ font. (length bytes.now ≡ font_size) × (font.now ≡ bytes.now)) (λ refusal. (length bytes.now ≢ font_size) × (refusal ≡ Refusal.Size)) }
+{
+    bytes.try_into().map_err(|_| Refusal::Size)
+}
+
+// A row of the pattern of a code that the font has.
+fn glyph_row(font: &[u8; FONT_SIZE], code: u8, row: usize) -> u8
+    requires { (font_start ≤ code) × (row < tall) }
+    ensures { result ≡ glyph_row font.now code row }
 {
     let first = TALL * (code as usize - FONT_START as usize);
-    let mut rows = [0; TALL];
-    for r in 0..TALL {
-        rows[r] = font[first + r] & FULL;
-    }
-    rows
+    font[first + row] & FULL
+}
+
+// The pattern of a code that the font has.
+pub(crate) fn glyph(font: &[u8; FONT_SIZE], code: u8) -> [u8; TALL]
+    requires { font_start ≤ code }
+    ensures { result ≡ glyph_of font.now code }
+{
+    array::from_fn(|row| glyph_row(font, code, row))
 }

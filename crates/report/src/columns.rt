@@ -1,164 +1,122 @@
 // A line of the report: docs/REPORT.md has its columns. Room is made for a whole line before it is put, so nothing within it
 // has to write (docs/DECISIONS.md, "Speed").
-use account::columns::{Line, Lined, Meaning, Shown, What};
-use desk::clock::{put_clock_here, put_number_here};
-use desk::page::{PAGE, put_here, room_for};
+use account::columns::{Line, Meaning, Shown, What};
+use desk::page::Page;
 use framing::flaw::Flaw;
-use mirror::answer::Answer;
 
 // More than any line has. The longest has 155 bytes: three numbers of 20 digits, a clock of 33, `instruction-write`,
 // `length-` and a fourth, an answer, a byte, and what stands between them.
 pub(crate) const LINE: usize = 256;
 
-pub(crate) fn put_names(page: &mut [u8; PAGE], at: usize) -> usize {
-    put_here(
-        page,
-        at,
-        b"record\tsecond\ttime\tclock\tanswer\twhat\tbyte\tmeaning\n",
-    )
+pub(crate) fn put_names(page: &mut Page) {
+    page.put_here(b"record\tsecond\ttime\tclock\tanswer\twhat\tbyte\tmeaning\n");
 }
 
 // The number of the second half, where there is one.
-fn put_second(page: &mut [u8; PAGE], at: usize, second: u64) -> usize {
-    if second == 0 {
-        return put_here(page, at, b"\t-");
+fn put_second(page: &mut Page, second: Option<u64>) {
+    match second {
+        Some(number) => page.put_number_here(number),
+        None => page.put_here(b"-"),
     }
-    let a = put_here(page, at, b"\t");
-    put_number_here(page, a, second)
 }
 
-// A time and its clock.
-pub(crate) fn put_time(page: &mut [u8; PAGE], at: usize, time: u64) -> usize {
-    let a = put_here(page, at, b"\t");
-    let b = put_number_here(page, a, time);
-    let c = put_here(page, b, b"\t");
-    put_clock_here(page, c, time)
+// A time and its clock; a bad record has none.
+pub(crate) fn put_time(page: &mut Page, time: Option<u64>) {
+    match time {
+        Some(time) => {
+            page.put_number_here(time);
+            page.put_here(b"\t");
+            page.put_clock_here(time);
+        }
+        None => page.put_here(b"-\t-"),
+    }
 }
 
-// The time of a record; a bad one has none.
-fn put_time_of(page: &mut [u8; PAGE], at: usize, what: What, time: u64) -> usize {
+fn put_what(page: &mut Page, what: What) {
     match what {
-        What::InstructionWrite => put_time(page, at, time),
-        What::DataWrite => put_time(page, at, time),
-        What::StatusRead => put_time(page, at, time),
-        What::DataRead => put_time(page, at, time),
-        What::Reset => put_time(page, at, time),
-        What::Record => put_here(page, at, b"\t-\t-"),
+        What::InstructionWrite => page.put_here(b"instruction-write"),
+        What::DataWrite => page.put_here(b"data-write"),
+        What::StatusRead => page.put_here(b"status-read"),
+        What::DataRead => page.put_here(b"data-read"),
+        What::Reset => page.put_here(b"reset"),
+        What::Record => page.put_here(b"record"),
     }
 }
 
-// The name of an answer; the report has lines of five.
-fn put_answer(page: &mut [u8; PAGE], at: usize, answer: Answer) -> usize {
-    match answer {
-        Answer::Taken => put_here(page, at, b"\ttaken"),
-        Answer::Doubtful => put_here(page, at, b"\tdoubtful"),
-        Answer::Held => put_here(page, at, b"\theld"),
-        Answer::Status => put_here(page, at, b"\tstatus"),
-        Answer::Ignored => put_here(page, at, b"\tignored"),
-        Answer::Torn => put_here(page, at, b"\ttorn"),
-        Answer::Back => put_here(page, at, b"\tback"),
-        Answer::Bad => put_here(page, at, b"\tbad"),
-        Answer::Nothing => put_here(page, at, b"\tnone"),
-        Answer::Cut => put_here(page, at, b"\tcut"),
-        Answer::Unsound => put_here(page, at, b"\tunsound"),
-    }
-}
-
-fn put_what(page: &mut [u8; PAGE], at: usize, what: What) -> usize {
-    match what {
-        What::InstructionWrite => put_here(page, at, b"instruction-write"),
-        What::DataWrite => put_here(page, at, b"data-write"),
-        What::StatusRead => put_here(page, at, b"status-read"),
-        What::DataRead => put_here(page, at, b"data-read"),
-        What::Reset => put_here(page, at, b"reset"),
-        What::Record => put_here(page, at, b"record"),
-    }
-}
-
-fn put_shown(page: &mut [u8; PAGE], at: usize, byte: Shown) -> usize {
+fn put_shown(page: &mut Page, byte: Option<Shown>) {
     match byte {
-        Shown::Nothing => put_here(page, at, b"-"),
-        Shown::Half(b) => put_here(page, at, &[text::digit(b / 16), b'-']),
-        Shown::Whole(b) => put_here(page, at, &text::hex(b)),
+        Some(Shown::Half(b)) => page.put_here(&[text::digit(b / 16), b'-']),
+        Some(Shown::Whole(b)) => page.put_here(&text::hex(b)),
+        None => page.put_here(b"-"),
     }
 }
 
-fn put_flaw(page: &mut [u8; PAGE], at: usize, flaw: Flaw) -> usize {
+fn put_flaw(page: &mut Page, flaw: Flaw) {
     match flaw {
-        Flaw::Nothing => put_here(page, at, b"-"),
         Flaw::Kind(kind) => {
-            let a = put_here(page, at, b"kind-");
-            put_number_here(page, a, kind)
+            page.put_here(b"kind-");
+            page.put_number_here(kind);
         }
         Flaw::Length(length) => {
-            let a = put_here(page, at, b"length-");
-            put_number_here(page, a, length as u64)
+            page.put_here(b"length-");
+            page.put_number_here(length as u64);
         }
-        Flaw::LateTime => put_here(page, at, b"late-time"),
-        Flaw::StrayControl => put_here(page, at, b"stray-control"),
+        Flaw::LateTime => page.put_here(b"late-time"),
+        Flaw::StrayControl => page.put_here(b"stray-control"),
     }
 }
 
 // A character that shows; the space by its name.
-fn put_character(page: &mut [u8; PAGE], at: usize, byte: u8) -> usize {
+fn put_character(page: &mut Page, byte: u8) {
     match byte {
-        0x20 => put_here(page, at, b"space"),
-        0x21..=0x7E => put_here(page, at, &[byte]),
-        _ => put_here(page, at, b"-"),
+        0x20 => page.put_here(b"space"),
+        0x21..=0x7E => page.put_here(&[byte]),
+        _ => page.put_here(b"-"),
     }
 }
 
-fn put_instruction(page: &mut [u8; PAGE], at: usize, byte: u8) -> usize {
+fn put_instruction(page: &mut Page, byte: u8) {
     match byte {
-        0x00 => put_here(page, at, b"nothing"),
-        0x01 => put_here(page, at, b"Clear"),
-        0x02..=0x03 => put_here(page, at, b"Home"),
-        0x04..=0x07 => put_here(page, at, b"Entry-mode"),
-        0x08..=0x0F => put_here(page, at, b"Display-bits"),
-        0x10..=0x17 => put_here(page, at, b"Cursor-move"),
-        0x18..=0x1F => put_here(page, at, b"Display-shift"),
-        0x20..=0x3F => put_here(page, at, b"Function-Set"),
-        0x40..=0x7F => put_here(page, at, b"Pattern-address"),
-        0x80..=0xFF => put_here(page, at, b"Display-address"),
+        0x00 => page.put_here(b"nothing"),
+        0x01 => page.put_here(b"Clear"),
+        0x02..=0x03 => page.put_here(b"Home"),
+        0x04..=0x07 => page.put_here(b"Entry-mode"),
+        0x08..=0x0F => page.put_here(b"Display-bits"),
+        0x10..=0x17 => page.put_here(b"Cursor-move"),
+        0x18..=0x1F => page.put_here(b"Display-shift"),
+        0x20..=0x3F => page.put_here(b"Function-Set"),
+        0x40..=0x7F => page.put_here(b"Pattern-address"),
+        0x80..=0xFF => page.put_here(b"Display-address"),
     }
 }
 
-fn put_meaning(page: &mut [u8; PAGE], at: usize, meaning: Meaning) -> usize {
+fn put_meaning(page: &mut Page, meaning: Option<Meaning>) {
     match meaning {
-        Meaning::Nothing => put_here(page, at, b"-"),
-        Meaning::Flaw(flaw) => put_flaw(page, at, flaw),
-        Meaning::TornBy(what) => {
-            let a = put_here(page, at, b"torn-by-");
-            put_what(page, a, what)
+        Some(Meaning::Flaw(flaw)) => put_flaw(page, flaw),
+        Some(Meaning::TornBy(what)) => {
+            page.put_here(b"torn-by-");
+            put_what(page, what);
         }
-        Meaning::Character(byte) => put_character(page, at, byte),
-        Meaning::Instruction(byte) => put_instruction(page, at, byte),
+        Some(Meaning::Character(byte)) => put_character(page, byte),
+        Some(Meaning::Instruction(byte)) => put_instruction(page, byte),
+        None => page.put_here(b"-"),
     }
 }
 
-pub(crate) fn put_line(page: &mut [u8; PAGE], from: usize, line: Line) -> usize {
-    let at = room_for(page, from, LINE);
-    let answer = line.answer;
-    let what = line.what;
-    let byte = line.byte;
-    let meaning = line.meaning;
-    let a = put_number_here(page, at, line.number);
-    let b = put_second(page, a, line.second);
-    let c = put_time_of(page, b, what, line.time);
-    let d = put_answer(page, c, answer);
-    let e = put_here(page, d, b"\t");
-    let f = put_what(page, e, what);
-    let g = put_here(page, f, b"\t");
-    let h = put_shown(page, g, byte);
-    let i = put_here(page, h, b"\t");
-    let j = put_meaning(page, i, meaning);
-    put_here(page, j, b"\n")
-}
-
-// The line that a record brings, if it brings one.
-pub(crate) fn put_lined(page: &mut [u8; PAGE], at: usize, lined: Lined) -> usize {
-    match lined {
-        Lined::Nothing => at,
-        Lined::Line(line) => put_line(page, at, line),
-    }
+pub(crate) fn put_line(page: &mut Page, line: Line) {
+    page.make_room(LINE);
+    page.put_number_here(line.number);
+    page.put_here(b"\t");
+    put_second(page, line.second);
+    page.put_here(b"\t");
+    put_time(page, line.time);
+    page.put_here(b"\t");
+    page.put_here(line.answer.name().as_bytes());
+    page.put_here(b"\t");
+    put_what(page, line.what);
+    page.put_here(b"\t");
+    put_shown(page, line.byte);
+    page.put_here(b"\t");
+    put_meaning(page, line.meaning);
+    page.put_here(b"\n");
 }

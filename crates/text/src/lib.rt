@@ -9,10 +9,14 @@ pub fn digit(n: u8) -> u8
     ensures { result ≡ digit_of n }
 {
     let low = n % 16;
-    if low < 10 { 48 + low } else { 55 + low }
+    if low < 10 {
+        b'0' + low
+    } else {
+        b'A' - 10 + low
+    }
 }
 
-// Two upper-case hexadecimal digits.
+// Two upper-case hexadecimal digits, as bytes: the kit's hex has upper case as a String alone, and nothing here uses the heap.
 pub fn hex(byte: u8) -> [u8; 2]
     ensures { result ≡ hex_of byte }
 {

@@ -1,5 +1,5 @@
 -- A panel file (docs/TRACE.md, "A panel file"): which bytes are one, and the panel that they hold.
-use Rattle.std.specs.Prelude.{ℕ, ◌+◌, ◌*◌, ◌^◌, Bool, false, ◌&&◌, ◌||◌, List, ◌==◌, nat_lt, slice_index}
+use Rattle.std.specs.Prelude.{ℕ, ◌+◌, ◌*◌, ◌^◌, Bool, false, ◌&&◌, ◌||◌, List, length, ◌==◌, nat_lt, slice_index, Option, Some, None, Result, Ok, Err}
 use Rattle.laws.specs.Pick.{pick}
 use Rattle.dots.specs.Table.{table}
 use Rattle.framing.specs.Frame.{num16, num64}
@@ -11,6 +11,8 @@ use Rattle.chip.specs.declared.registers.Registers.{Registers}
 use Rattle.mirror.specs.declared.half.Half.{Half}
 use Rattle.mirror.specs.declared.half.Half.TheVariants.{Empty, Ignored, Waiting}
 use Rattle.mirror.specs.declared.panel.Panel.{Panel}
+use Rattle.trace.specs.declared.panel_file.Misfit.{Misfit}
+use Rattle.trace.specs.declared.panel_file.Misfit.TheVariants.{Byte, Size}
 
 -- byte i; a bool, which is 1 where it is true
 abbrev pub byte_in : List ℕ → ℕ → ℕ
@@ -81,3 +83,17 @@ half_holds kind rs reads nibble =
 
 abbrev pub fits_in : List ℕ → Bool
 fits_in b = bits_fit b && half_holds (byte_in b 97) (byte_in b 98) (byte_in b 99) (byte_in b 100)
+
+-- a byte that is a bool, and the width's: whether it is 8
+abbrev pub bool_of : ℕ → Option Bool
+bool_of byte = pick (nat_lt byte 2) (Some (byte == 1)) None
+
+abbrev pub width_of : ℕ → Option Bool
+width_of byte = pick (byte == 8 || byte == 4) (Some (byte == 8)) None
+
+abbrev pub panel_size : ℕ
+panel_size = 106
+
+-- the panel that a file holds, or why it holds none
+abbrev pub panel_told : List ℕ → Result Panel Misfit
+panel_told b = pick (length b == panel_size) (pick (fits_in b) (Ok (file_panel b)) (Err Byte)) (Err Size)

@@ -1,1 +1,3 @@
+pub mod AnswersLaws
+pub mod PanelFileLaws
 pub mod RecordsLaws

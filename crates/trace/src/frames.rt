@@ -1,7 +1,8 @@
 // The frames that the painter and the comparison are lent.
-use desk::bytes::{Bytes, load};
-use desk::number::{Number, number_at};
-use desk::print::complain;
+use buffer::buffer::Buffer;
+use desk::bytes::{ROOM, load};
+use desk::number::number_at;
+use desk::print::{Stopped, complain};
 use picture::frame::frame_size;
 use std::num::wrapping_add_usize;
 
@@ -9,44 +10,34 @@ use std::num::wrapping_add_usize;
 const MOST: u64 = 200;
 
 // The size of the frames that are painted: what an argument names, or that of the chip's frame.
-pub(crate) fn size_at(rt: &HostRuntime, place: usize, chip: u8) -> Number {
-    if place == 0 {
-        return Number {
-            ok: true,
-            value: frame_size(chip) as u64,
-        };
+pub(crate) fn size_at(rt: &HostRuntime, place: Option<usize>, chip: u8) -> Result<usize, Stopped> {
+    let Some(at) = place else {
+        return Ok(frame_size(chip));
+    };
+    match number_at(rt, at, MOST) {
+        Some(size) => Ok(size as usize),
+        None => Err(complain(b"trace", b"frame takes a number of at most 200")),
     }
-    let size = number_at(rt, place, MOST);
-    if !size.ok {
-        complain(b"trace", b"frame takes a number of at most 200");
-    }
-    size
 }
 
-// A frame to compare, in a file; an empty one where none is named.
-pub(crate) fn frame_at(rt: &HostRuntime, place: usize) -> Bytes {
-    if place == 0 {
-        return Bytes {
-            ok: true,
-            bytes: io::buffer(),
-            len: 0,
-        };
+// A frame to compare, in a file.
+fn frame_at(rt: &HostRuntime, place: usize) -> Result<Buffer<ROOM>, Stopped> {
+    let frame = load(rt, place)?;
+    if MOST < frame.len as u64 {
+        return Err(complain(b"trace", b"a frame to compare has at most 200 bytes"));
     }
-    let file = load(rt, place);
-    if !file.ok {
-        return file;
-    }
-    if file.len as u64 <= MOST {
-        return file;
-    }
-    complain(b"trace", b"a frame to compare has at most 200 bytes");
-    Bytes { ok: false, ..file }
+    Ok(frame)
 }
 
-// The place of the second frame to compare.
-pub(crate) fn second_place(place: usize) -> usize {
-    if place == 0 {
-        return 0;
-    }
-    wrapping_add_usize(place, 1)
+// The two frames to compare, where they are named.
+pub(crate) fn frames_at(
+    rt: &HostRuntime,
+    place: Option<usize>,
+) -> Result<Option<[Buffer<ROOM>; 2]>, Stopped> {
+    let Some(at) = place else {
+        return Ok(None);
+    };
+    let first = frame_at(rt, at)?;
+    let second = frame_at(rt, wrapping_add_usize(at, 1))?;
+    Ok(Some([first, second]))
 }

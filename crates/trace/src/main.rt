@@ -7,21 +7,20 @@ mod panel_file;
 mod records;
 mod show;
 
-ghost use Rattle.std.specs.Prelude.{◌<◌};
-
-use answers::{Done, answer_all};
+use answers::answer_all;
+use buffer::buffer::Buffer;
 use desk::arguments::{GROUPS, Given, asked};
-use desk::bytes::{Bytes, load};
-use desk::input::BLOCK;
-use desk::print::complain;
+use desk::bytes::{ROOM, load};
+use desk::print::{Stopped, complain};
 use desk::told::told_at;
-use frames::{frame_at, second_place, size_at};
+use frames::{frames_at, size_at};
 use mirror::panel::Panel;
-use mirror::stream::Stream;
-use panel_file::{PANEL_SIZE, fits, panel_of};
+use mirror::stream::Run;
+use panel_file::{Misfit, panel_told};
 use picture::pattern::{FONT_SIZE, TALL};
 use records::record_all;
-use show::{show_difference, show_end, show_painting, show_run};
+use show::{show_difference, show_painting, show_run};
+use std::array;
 
 // The groups of arguments.
 const FONT: usize = 0;
@@ -38,21 +37,12 @@ const FRAMES: usize = 5;
 
 const RECORDS: usize = 6;
 
-// A panel to start from, or none where it could not be had; then a line was written.
-#[derive(Clone, Copy)]
-struct Started {
-    ok: bool,
-    panel: Panel,
-}
-
 // What the painter and the comparison are lent; the two frames only where they were named.
 #[derive(Clone, Copy)]
 struct Lent {
-    font: Bytes,
+    font: Buffer<ROOM>,
     size: usize,
-    named: bool,
-    a: Bytes,
-    b: Bytes,
+    frames: Option<[Buffer<ROOM>; 2]>,
 }
 
 // The shape of code 20h: the font begins with code 10h.
@@ -60,119 +50,54 @@ const BLANK: usize = 16;
 
 // The trial font: byte i is (37 i + 11 (i div 8) + 5) mod 256, but the eight bytes of code 20h are E0h, blank in the low
 // five bits.
-fn trial_byte(i: usize) -> u8
-    requires { i < 1920 }
-{
+fn trial_byte(i: usize) -> u8 {
     let shape = i / TALL;
     if shape == BLANK {
         return 0xE0;
     }
-    ((37 * i + 11 * shape + 5) % 256) as u8
+    ((37 * (i % 256) + 11 * (shape % 256) + 5) % 256) as u8
 }
 
-fn trial_font() -> Bytes {
-    let mut bytes = io::buffer();
-    for i in 0..FONT_SIZE {
-        bytes[i] = trial_byte(i);
-    }
-    Bytes {
-        ok: true,
-        bytes,
-        len: FONT_SIZE,
-    }
-}
-
-fn font_at(rt: &HostRuntime, place: usize) -> Bytes {
-    if place == 0 {
-        return trial_font();
-    }
-    load(rt, place)
-}
-
-// The panel in a file; `fresh` stands in where there is none.
-fn loaded_panel(rt: &HostRuntime, place: usize, fresh: Panel) -> Started {
-    let none = Started {
-        ok: false,
-        panel: fresh,
+fn font_at(rt: &HostRuntime, place: Option<usize>) -> Result<Buffer<ROOM>, Stopped> {
+    let Some(at) = place else {
+        let font: [u8; FONT_SIZE] = array::from_fn(|i| trial_byte(i));
+        return Ok(Buffer::keep(&font));
     };
-    let file = load(rt, place);
-    if !file.ok {
-        return none;
-    }
-    if file.len != PANEL_SIZE {
-        complain(b"trace", b"a panel file has 106 bytes");
-        return none;
-    }
-    let bytes = file.bytes;
-    if !fits(bytes) {
-        complain(b"trace", b"the panel file holds a byte that no panel has");
-        return none;
-    }
-    Started {
-        ok: true,
-        panel: panel_of(bytes),
-    }
+    load(rt, at)
 }
 
-fn first_panel(rt: &HostRuntime, places: [usize; GROUPS]) -> Started {
-    let told = told_at(rt, b"trace", places[CHIP], places[TIMES]);
+// The panel in a file.
+fn loaded_panel(rt: &HostRuntime, place: usize) -> Result<Panel, Stopped> {
+    let file = load(rt, place)?;
+    panel_told(file.as_slice()).map_err(|misfit| match misfit {
+        Misfit::Size => complain(b"trace", b"a panel file has 106 bytes"),
+        Misfit::Byte => complain(b"trace", b"the panel file holds a byte that no panel has"),
+    })
+}
+
+fn first_panel(rt: &HostRuntime, places: [Option<usize>; GROUPS]) -> Result<Panel, Stopped> {
+    let told = told_at(rt, b"trace", places[CHIP], places[TIMES])?;
     let times = told.times;
-    let fresh = Panel::fresh(told.chip, times.reset, times.long, times.short);
-    if !told.ok {
-        return Started {
-            ok: false,
-            panel: fresh,
-        };
+    match places[PANEL] {
+        Some(at) => loaded_panel(rt, at),
+        None => Ok(Panel::fresh(told.chip, times.reset, times.long, times.short)),
     }
-    if places[PANEL] == 0 {
-        return Started {
-            ok: true,
-            panel: fresh,
-        };
-    }
-    loaded_panel(rt, places[PANEL], fresh)
 }
 
-// The lines of the records, each by a call of its own or out of the stream.
-fn read_all(rt: &HostRuntime, panel: Panel, alone: bool) -> Done {
-    let mut block = [0; BLOCK];
-    if alone {
-        return record_all(rt, panel, &mut block);
-    }
-    answer_all(rt, Stream::start(panel), &mut block)
-}
-
-fn chip_in(panel: Panel) -> u8 {
-    let sheet = panel.sheet;
-    let registers = sheet.registers;
-    registers.chip
-}
-
-// The lines of the records, then those of the run.
-fn print(rt: &HostRuntime, panel: Panel, alone: bool, lent: Lent) {
-    let done = read_all(rt, panel, alone);
-    if done.failed {
-        return;
-    }
-    let run = done.run;
-    let after = run.panel;
-    let font = lent.font;
-    show_end(done.ended);
+// The lines of the run, once those of the records are written.
+fn print(run: &Run, lent: &Lent) {
+    let panel = run.panel;
+    let chip = panel.sheet.registers.chip;
+    let font = lent.font.as_slice();
     show_run(run);
-    let light = show_painting(b"frame 0", after, font, false, lent.size);
-    let dark = show_painting(b"frame 1", after, font, true, lent.size);
-    let chip = chip_in(after);
-    if lent.named {
-        let a = lent.a;
-        let b = lent.b;
-        show_difference(chip, a, b);
-    } else {
-        show_difference(chip, light, dark);
-    }
+    let light = show_painting(b"frame 0", panel, font, false, lent.size);
+    let dark = show_painting(b"frame 1", panel, font, true, lent.size);
+    let [a, b] = lent.frames.unwrap_or([light, dark]);
+    show_difference(chip, a.as_slice(), b.as_slice());
 }
 
 // What was asked for.
-fn arguments(rt: &HostRuntime) -> Given {
+fn arguments(rt: &HostRuntime) -> Result<Given, Stopped> {
     asked(
         rt,
         b"trace",
@@ -189,43 +114,23 @@ fn arguments(rt: &HostRuntime) -> Given {
     )
 }
 
+fn run(rt: &HostRuntime) -> Result<(), Stopped> {
+    let places = arguments(rt)?.places;
+    let panel = first_panel(rt, places)?;
+    let lent = Lent {
+        size: size_at(rt, places[FRAME], panel.sheet.registers.chip)?,
+        font: font_at(rt, places[FONT])?,
+        frames: frames_at(rt, places[FRAMES])?,
+    };
+    let run = match places[RECORDS] {
+        Some(_) => record_all(rt, panel)?,
+        None => answer_all(rt, panel)?,
+    };
+    print(&run, &lent);
+    Ok(())
+}
+
+// What stops it has been written by then, and the launcher tells from that how it ended.
 fn main(rt: HostRuntime) {
-    let given = arguments(&rt);
-    if !given.ok {
-        return;
-    }
-    let places = given.places;
-    let started = first_panel(&rt, places);
-    if !started.ok {
-        return;
-    }
-    let panel = started.panel;
-    let size = size_at(&rt, places[FRAME], chip_in(panel));
-    if !size.ok {
-        return;
-    }
-    let font = font_at(&rt, places[FONT]);
-    if !font.ok {
-        return;
-    }
-    let a = frame_at(&rt, places[FRAMES]);
-    if !a.ok {
-        return;
-    }
-    let b = frame_at(&rt, second_place(places[FRAMES]));
-    if !b.ok {
-        return;
-    }
-    print(
-        &rt,
-        panel,
-        places[RECORDS] != 0,
-        Lent {
-            font,
-            size: size.value as usize,
-            named: places[FRAMES] != 0,
-            a,
-            b,
-        },
-    );
+    let _ = run(&rt);
 }

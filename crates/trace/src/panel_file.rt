@@ -1,171 +1,129 @@
 // A panel file: 106 bytes, as docs/TRACE.md lays them out.
-ghost use Rattle.std.specs.Prelude.{◌≡◌, ◌<◌};
-ghost use Rattle.framing.specs.engine.Reading.{Byte, Num16, Num64};
-ghost use Rattle.trace.specs.PanelFile.{address_in, bits_fit, display_in, fits_in, half_holds, half_in, file_panel, num32, pattern_in, registers_in};
+ghost use Rattle.std.specs.Prelude.{◌≡◌, ◌+◌, ◌≤◌, ◌==◌, Some, None, nat_lt, slice_range};
+ghost use Rattle.laws.specs.Pick.{pick};
+ghost use Rattle.trace.specs.PanelFile.{address_in, bits_fit, bool_of, file_panel, fits_in, half_holds, half_in, panel_told, registers_in, width_of};
 
 use chip::address::{Address, DisplayAddress, PatternAddress};
 use chip::registers::Registers;
 use chip::sheet::Sheet;
-use chip::sizes::{DISPLAY_SIZE, PATTERN_SIZE};
-use desk::bytes::ROOM;
 use mirror::half::Half;
 use mirror::panel::{Panel, Times};
 
-pub const PANEL_SIZE: usize = 106;
+const PANEL_SIZE: usize = 106;
 
-// Where the memories begin.
-const DISPLAY: usize = 1;
-
-const PATTERN: usize = DISPLAY + DISPLAY_SIZE;
-
-// Numbers as a log has them. log's own readers of these ask that the bytes be there, so they cannot be public.
-fn wide(x: u8) -> u64
-    ensures { Byte x result }
-{
-    x as u64
+// Why a file holds no panel: another number of bytes, or a byte that no panel has.
+#[derive(Clone, Copy, PartialEq, Eq)]
+pub(crate) enum Misfit {
+    Size,
+    Byte,
 }
 
-// The little-endian number of two bytes at a place.
-fn num16(bytes: [u8; ROOM], at: usize) -> u64
-    requires { at < 105 }
-    ensures { Num16 bytes at result }
+// The bytes of a field, from a place on.
+fn field<const N: usize>(bytes: &[u8; PANEL_SIZE], at: usize) -> [u8; N]
+    requires { at + N ≤ 106 }
+    ensures { result ≡ slice_range bytes.now at (at + N) }
 {
-    let low = wide(bytes[at]);
-    let high = wide(bytes[at + 1]);
-    low + 256 * high
+    <[u8; N]>::try_from(&bytes[at..at + N]).unwrap()
 }
 
-// The little-endian number of four bytes at a place.
-fn num32(bytes: [u8; ROOM], at: usize) -> u32
-    requires { at < 103 }
-    ensures { result ≡ num32 bytes at }
+// A bool is 0 or 1.
+fn bool_of(byte: u8) -> Option<bool>
+    ensures { result ≡ bool_of byte }
 {
-    let low = num16(bytes, at);
-    let high = num16(bytes, at + 2);
-    (low + 65536 * high) as u32
-}
-
-// The little-endian number of eight bytes at a place.
-fn num64(bytes: [u8; ROOM], at: usize) -> u64
-    requires { at < 94 }
-    ensures { Num64 bytes at result }
-{
-    let a = num16(bytes, at);
-    let b = num16(bytes, at + 2);
-    let c = num16(bytes, at + 4);
-    let d = num16(bytes, at + 6);
-    a + 65536 * b + 4294967296 * c + 281474976710656 * d
-}
-
-// Whether the bytes outside the half are ones that the types can hold: bools 0 or 1, the width 8 or 4.
-fn bits_fit(b: [u8; ROOM]) -> bool
-    ensures { result ≡ bits_fit b }
-{
-    let width = (b[73] == 8) | (b[73] == 4);
-    width
-        & (b[65] < 2)
-        & (b[68] < 2)
-        & (b[69] < 2)
-        & (b[70] < 2)
-        & (b[71] < 2)
-        & (b[72] < 2)
-        & (b[101] < 2)
-}
-
-// Whether a half's bytes are ones that the types can hold: no field where none waits, no nibble where it is ignored.
-fn half_fits(kind: u8, rs: u8, rw: u8, nibble: u8) -> bool
-    ensures { result ≡ half_holds kind rs rw nibble }
-{
-    match kind {
-        0 => (rs == 0) & (rw == 0) & (nibble == 0),
-        1 => (rs < 2) & (rw < 2) & (nibble == 0),
-        2 => (rs < 2) & (rw < 2),
-        _ => false,
+    match byte {
+        0 => Some(false),
+        1 => Some(true),
+        _ => None,
     }
 }
 
-pub(crate) fn fits(bytes: [u8; ROOM]) -> bool
-    ensures { result ≡ fits_in bytes }
+// The width is 8 or 4: whether it is 8.
+fn width_of(byte: u8) -> Option<bool>
+    ensures { result ≡ width_of byte }
 {
-    bits_fit(bytes) & half_fits(bytes[97], bytes[98], bytes[99], bytes[100])
-}
-
-fn half_of(kind: u8, rs: bool, rw: bool, nibble: u8) -> Half
-    ensures { result ≡ half_in kind rs rw nibble }
-{
-    match kind {
-        1 => Half::Ignored { rs, rw },
-        2 => Half::Waiting { rs, rw, nibble },
-        _ => Half::Empty,
+    match byte {
+        8 => Some(true),
+        4 => Some(false),
+        _ => None,
     }
 }
 
-fn display_of(bytes: [u8; ROOM]) -> [u8; DISPLAY_SIZE]
-    ensures { result ≡ display_in bytes }
+// No field where no half waits, no nibble where it is ignored.
+fn half_of(kind: u8, rs: u8, rw: u8, nibble: u8) -> Option<Half>
+    ensures { result ≡ pick (half_holds kind rs rw nibble) (Some (half_in kind (rs == 1) (rw == 1) nibble)) None }
 {
-    let mut display = [0u8; DISPLAY_SIZE];
-    for i in 0..DISPLAY_SIZE {
-        display[i] = bytes[DISPLAY + i];
-    }
-    display
-}
-
-fn pattern_of(bytes: [u8; ROOM]) -> [u8; PATTERN_SIZE]
-    ensures { result ≡ pattern_in bytes }
-{
-    let mut pattern = [0u8; PATTERN_SIZE];
-    for i in 0..PATTERN_SIZE {
-        pattern[i] = bytes[PATTERN + i];
-    }
-    pattern
-}
-
-fn address_of(memory: u8, number: u8) -> Address
-    ensures { result ≡ address_in memory number }
-{
-    if memory == 0 {
-        Address::Display(DisplayAddress(number))
-    } else {
-        Address::Pattern(PatternAddress(number))
+    match (kind, rs, rw, nibble) {
+        (0, 0, 0, 0) => Some(Half::Empty),
+        (1, _, _, 0) => Some(Half::Ignored {
+            rs: bool_of(rs)?,
+            rw: bool_of(rw)?,
+        }),
+        (2, _, _, _) => Some(Half::Waiting {
+            rs: bool_of(rs)?,
+            rw: bool_of(rw)?,
+            nibble,
+        }),
+        _ => None,
     }
 }
 
-fn registers_of(bytes: [u8; ROOM]) -> Registers
-    ensures { result ≡ registers_in bytes }
+// The counter's memory is 0, display, or 1, pattern.
+fn address_of(memory: u8, number: u8) -> Option<Address>
+    ensures { result ≡ pick (nat_lt memory 2) (Some (address_in memory number)) None }
 {
-    Registers {
+    match memory {
+        0 => Some(Address::Display(DisplayAddress(number))),
+        1 => Some(Address::Pattern(PatternAddress(number))),
+        _ => None,
+    }
+}
+
+fn registers_of(bytes: &[u8; PANEL_SIZE]) -> Option<Registers>
+    ensures { result ≡ pick (bits_fit bytes.now) (Some (registers_in bytes.now)) None }
+{
+    Some(Registers {
         chip: bytes[0],
-        address: address_of(bytes[65], bytes[66]),
+        address: address_of(bytes[65], bytes[66])?,
         shift: bytes[67],
-        up: bytes[68] == 1,
-        follow: bytes[69] == 1,
-        on: bytes[70] == 1,
-        cursor: bytes[71] == 1,
-        blink: bytes[72] == 1,
-        eight: bytes[73] == 8,
+        up: bool_of(bytes[68])?,
+        follow: bool_of(bytes[69])?,
+        on: bool_of(bytes[70])?,
+        cursor: bool_of(bytes[71])?,
+        blink: bool_of(bytes[72])?,
+        eight: width_of(bytes[73])?,
         function: bytes[74],
-        good: bytes[101] == 1,
-        written: num32(bytes, 102),
-    }
+        good: bool_of(bytes[101])?,
+        written: u32::from_le_bytes(field(bytes, 102)),
+    })
 }
 
-// The panel that bytes which fit hold, sound or not.
-pub(crate) fn panel_of(bytes: [u8; ROOM]) -> Panel
-    ensures { result ≡ file_panel bytes }
+// The panel that the bytes hold, sound or not.
+fn panel_of(bytes: &[u8; PANEL_SIZE]) -> Option<Panel>
+    ensures { result ≡ pick (fits_in bytes.now) (Some (file_panel bytes.now)) None }
 {
-    Panel {
+    Some(Panel {
         sheet: Sheet {
-            registers: registers_of(bytes),
-            display: display_of(bytes),
-            pattern: pattern_of(bytes),
+            registers: registers_of(bytes)?,
+            display: field(bytes, 1),
+            pattern: field(bytes, 33),
         },
-        busy: num64(bytes, 81),
-        half: half_of(bytes[97], bytes[98] == 1, bytes[99] == 1, bytes[100]),
+        busy: u64::from_le_bytes(field(bytes, 81)),
+        half: half_of(bytes[97], bytes[98], bytes[99], bytes[100])?,
         times: Times {
-            reset: num16(bytes, 75) as u16,
-            long: num16(bytes, 77) as u16,
-            short: num16(bytes, 79) as u16,
+            reset: u16::from_le_bytes(field(bytes, 75)),
+            long: u16::from_le_bytes(field(bytes, 77)),
+            short: u16::from_le_bytes(field(bytes, 79)),
         },
-        last: num64(bytes, 89),
+        last: u64::from_le_bytes(field(bytes, 89)),
+    })
+}
+
+// The panel that a file holds, sound or not.
+pub(crate) fn panel_told(file: &[u8]) -> Result<Panel, Misfit>
+    ensures { result ≡ panel_told file.now }
+{
+    match <&[u8; PANEL_SIZE]>::try_from(file) {
+        Ok(bytes) => panel_of(bytes).ok_or(Misfit::Byte),
+        Err(_) => Err(Misfit::Size),
     }
 }

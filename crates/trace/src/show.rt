@@ -1,233 +1,157 @@
 // The print of a run: the whole panel, its two pictures, and the comparison.
-ghost use Rattle.std.specs.Prelude.{◌≡◌, length};
+ghost use Rattle.std.specs.Prelude.{◌≡◌};
 ghost use Rattle.trace.specs.Show.{highest_first};
 
+use buffer::buffer::Buffer;
 use chip::address::Address;
 use chip::registers::Registers;
-use chip::sizes::{DISPLAY_SIZE, ONE_LINE, PATTERN_SIZE, places};
-use desk::bytes::{Bytes, ROOM, held};
+use chip::sizes::{DISPLAY_SIZE, ONE_LINE, places};
+use desk::bytes::ROOM;
 use desk::print::{show, show_bytes, show_number};
-use mirror::count::COUNTS;
+use mirror::answer::Refusal;
 use mirror::half::Half;
 use mirror::panel::Panel;
 use mirror::stream::Run;
-use picture::compare::{Compared, compare};
-use picture::paint::{Painted, paint};
+use picture::compare::compare;
+use picture::paint::paint;
 
-fn bit(b: bool) {
-    if b { show(b" 1") } else { show(b" 0") }
-}
-
-fn hex(byte: u8) {
-    show(&text::hex(byte));
+fn show_bits(label: &[u8], bits: &[bool]) {
+    show(label);
+    for bit in bits {
+        show_number(b" ", u64::from(*bit));
+    }
 }
 
 // One digit where one will do.
-fn short_hex(byte: u8) {
+fn show_short(label: &[u8], byte: u8) {
     if byte < 16 {
+        show(label);
         show(&[text::digit(byte)]);
     } else {
-        hex(byte);
+        show_bytes(label, &[byte]);
     }
 }
 
-fn show_counter(address: Address) {
-    match address {
-        Address::Display(d) => {
-            show(b"\ncounter display ");
-            hex(d.0);
-        }
-        Address::Pattern(p) => {
-            show(b"\ncounter pattern ");
-            hex(p.0);
-        }
+fn show_registers(r: &Registers) {
+    match r.address {
+        Address::Display(d) => show_bytes(b"\ncounter display ", &[d.0]),
+        Address::Pattern(p) => show_bytes(b"\ncounter pattern ", &[p.0]),
     }
-}
-
-fn show_registers(r: Registers) {
-    let a = r.address;
-    show_counter(a);
-    show_number(b"\nshift ", r.shift as u64);
-    show(b"\nentry");
-    bit(r.up);
-    bit(r.follow);
-    show(b"\nscreen");
-    bit(r.on);
-    bit(r.cursor);
-    bit(r.blink);
-    if r.eight {
-        show(b"\nwidth 8 function ")
-    } else {
-        show(b"\nwidth 4 function ")
-    }
-    short_hex(r.function);
+    show_number(b"\nshift ", u64::from(r.shift));
+    show_bits(b"\nentry", &[r.up, r.follow]);
+    show_bits(b"\nscreen", &[r.on, r.cursor, r.blink]);
+    show(if r.eight { b"\nwidth 8" } else { b"\nwidth 4" });
+    show_short(b" function ", r.function);
 }
 
 fn show_half(half: Half) {
     match half {
         Half::Empty => show(b"\nhalf none"),
         Half::Ignored { rs, rw } => {
-            show(b"\nhalf");
-            bit(rs);
-            bit(rw);
-            show(b" 1 0");
+            show_bits(b"\nhalf", &[rs, rw, true]);
+            show(b" 0");
         }
         Half::Waiting { rs, rw, nibble } => {
-            show(b"\nhalf");
-            bit(rs);
-            bit(rw);
-            show(b" 0 ");
-            short_hex(nibble);
+            show_bits(b"\nhalf", &[rs, rw, false]);
+            show_short(b" ", nibble);
         }
     }
 }
 
-// How many places of display memory are printed: those of the chip of one line, and all of every other number.
-fn shown_places(chip: u8) -> usize {
-    if chip == ONE_LINE {
-        places(chip)
-    } else {
-        DISPLAY_SIZE
-    }
-}
-
-fn show_display(chip: u8, display: [u8; DISPLAY_SIZE]) {
-    let n = held(&display, shown_places(chip));
+// The places of the chip of one line, and all of every other number.
+fn show_display(chip: u8, display: &[u8; DISPLAY_SIZE]) {
     show(b"\ndisplay");
-    show_bytes(b" ", &display[..n]);
-}
-
-fn show_pattern(pattern: [u8; PATTERN_SIZE]) {
-    show(b"\npattern");
-    show_bytes(b" ", &pattern);
+    if chip == ONE_LINE {
+        show_bytes(b" ", &display[..places(chip)]);
+    } else {
+        show_bytes(b" ", display);
+    }
 }
 
 // The four bytes of a number, the highest first.
 fn highest_first(n: u32) -> [u8; 4]
     ensures { result ≡ highest_first n }
 {
-    [
-        (n / 16777216) as u8,
-        (n / 65536 % 256) as u8,
-        (n / 256 % 256) as u8,
-        (n % 256) as u8,
-    ]
+    n.to_be_bytes()
 }
 
-// The bits of the written places, as they stand.
-fn show_written(bits: u32) {
-    show(b"\nwritten ");
-    show_bytes(b"", &highest_first(bits));
-}
-
-fn show_panel(panel: Panel) {
-    let sheet = panel.sheet;
-    let display = sheet.display;
-    let pattern = sheet.pattern;
-    let registers = sheet.registers;
-    let half = panel.half;
-    show(b"\nsound");
-    bit(panel.sound());
-    show_number(b"\nchip ", registers.chip as u64);
-    show_display(registers.chip, display);
-    show_pattern(pattern);
-    show_registers(registers);
+fn show_panel(panel: &Panel) {
+    let registers = panel.sheet.registers;
+    show_bits(b"\nsound", &[panel.sound()]);
+    show_number(b"\nchip ", u64::from(registers.chip));
+    show_display(registers.chip, &panel.sheet.display);
+    show(b"\npattern");
+    show_bytes(b" ", &panel.sheet.pattern);
+    show_registers(&registers);
     show_number(b"\nbusy ", panel.busy);
     show_number(b" last ", panel.last);
-    show_half(half);
-    show(b"\ngood");
-    bit(registers.good);
-    show_written(registers.written);
+    show_half(panel.half);
+    show_bits(b"\ngood", &[registers.good]);
+    // The bits of the written places, as they stand.
+    show(b"\nwritten ");
+    show_bytes(b"", &highest_first(registers.written));
     show(b"\n");
 }
 
-fn show_counts(counts: [u64; COUNTS]) {
-    show(b"\ncounts");
-    for i in 0..COUNTS {
-        show_number(b" ", counts[i]);
-    }
+fn show_refusal(label: &[u8], refusal: Refusal) {
+    show_number(label, u64::from(refusal.number()));
 }
 
-// The number of the answer that ended a run, where there is one.
-pub(crate) fn show_end(number: u8) {
-    if number != 0 {
-        show_number(b"refused ", number as u64);
+pub(crate) fn show_run(run: &Run) {
+    if let Some(refusal) = run.refusal() {
+        show_refusal(b"refused ", refusal);
         show(b"\n");
     }
-}
-
-pub(crate) fn show_run(run: Run) {
-    let panel = run.panel;
-    let counts = run.counts;
     show_number(b"records ", run.records);
-    show(b"\ncut");
-    bit(run.cut);
-    show_counts(counts);
-    show_panel(panel);
-}
-
-fn show_painted(painted: Painted) {
-    match painted {
-        Painted::Lit(n) => show_number(b" lit ", n as u64),
-        _ => show_number(b" refused ", painted.refusal() as u64),
+    show_bits(b"\ncut", &[run.cut]);
+    show(b"\ncounts");
+    for n in run.counts {
+        show_number(b" ", n);
     }
+    show_panel(&run.panel);
 }
 
 // Paints into a frame as it is lent; then the answer, and every byte of the frame as it then stands.
 fn show_lent(panel: Panel, font: &[u8], dark: bool, frame: &mut [u8]) {
-    show_painted(paint(panel, font, dark, frame));
-    if 0 < frame.len() {
+    match paint(panel, font, dark, frame) {
+        Ok(lit) => show_number(b" lit ", lit as u64),
+        Err(refusal) => show_refusal(b" refused ", refusal),
+    }
+    if !frame.is_empty() {
         show(b" ");
     }
     show_bytes(b"", frame);
     show(b"\n");
 }
 
-// A frame to lend: filled with A5h, so that what a painting overwrites and a refusal leaves can be seen.
-fn blank() -> [u8; ROOM]
-    ensures { 4096 ≡ length result }
-{
-    [0xA5; ROOM]
-}
-
-// A painting, and the frame that it leaves.
+// A painting, and the frame that it leaves. It is lent filled with A5h, so that what a painting overwrites and a refusal leaves
+// can be seen.
 pub(crate) fn show_painting(
     label: &[u8],
     panel: Panel,
-    font: Bytes,
+    font: &[u8],
     dark: bool,
     size: usize,
-) -> Bytes {
+) -> Buffer<ROOM> {
+    let len = size.min(ROOM);
+    let mut frame = Buffer {
+        bytes: [0xA5; ROOM],
+        len,
+    };
     show(label);
-    let dots = font.bytes;
-    let m = held(&dots, font.len);
-    let mut frame = blank();
-    let n = held(&frame, size);
-    show_lent(panel, &dots[..m], dark, &mut frame[..n]);
-    Bytes {
-        ok: true,
-        bytes: frame,
-        len: n,
-    }
-}
-
-fn show_compared(compared: Compared) {
-    match compared {
-        Compared::At { row, column } => {
-            show_number(b"differ ", row as u64);
-            show_number(b" ", column as u64);
-        }
-        Compared::Same => show(b"differ none"),
-        _ => show_number(b"differ refused ", compared.refusal() as u64),
-    }
-    show(b"\n");
+    show_lent(panel, font, dark, &mut frame.bytes[..len]);
+    frame
 }
 
 // The comparison of two frames of a chip.
-pub(crate) fn show_difference(chip: u8, a: Bytes, b: Bytes) {
-    let first = a.bytes;
-    let second = b.bytes;
-    let i = held(&first, a.len);
-    let j = held(&second, b.len);
-    show_compared(compare(chip, &first[..i], &second[..j]));
+pub(crate) fn show_difference(chip: u8, a: &[u8], b: &[u8]) {
+    match compare(chip, a, b) {
+        Ok(Some(dot)) => {
+            show_number(b"differ ", dot.row as u64);
+            show_number(b" ", dot.column as u64);
+        }
+        Ok(None) => show(b"differ none"),
+        Err(refusal) => show_refusal(b"differ refused ", refusal),
+    }
+    show(b"\n");
 }

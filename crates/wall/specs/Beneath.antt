@@ -1,5 +1,5 @@
 -- The lines beneath the drawing, and the picture that they make with it (docs/WALL.md, "The print").
-use Rattle.std.specs.Prelude.{ℕ, Bool, true, false, List, [], ◌∷◌, ◌++◌, ltb, get_or}
+use Rattle.std.specs.Prelude.{ℕ, Bool, true, false, List, [], ◌∷◌, ◌++◌, Option, Some, None, ltb, get_or}
 use Rattle.laws.specs.Pick.{pick}
 use Rattle.text.specs.Hex.{hex_of}
 use Rattle.chip.specs.Sizes.{lines_of, positions}
@@ -8,8 +8,7 @@ use Rattle.mirror.specs.declared.panel.Panel.{Panel}
 use Rattle.picture.specs.Cursor.{cursor_of}
 use Rattle.picture.specs.Paint.{frame_after}
 use Rattle.picture.specs.Picture.{codes_of}
-use Rattle.picture.specs.declared.cursor.Cursor.{Cursor}
-use Rattle.picture.specs.declared.cursor.Cursor.TheVariants.{Off, At}
+use Rattle.picture.specs.declared.cursor.Spot.{Spot}
 use Rattle.wall.specs.Draw.{drawing_bytes, drawn_panel, strung}
 use Rattle.wall.specs.Svg.{decimal_bytes}
 use Rattle.wall.specs.Text.{text_of}
@@ -40,9 +39,9 @@ abbrev pub line_after : ℕ → ℕ → List ℕ
 line_after lines l = pick (ltb 1 lines) ((32 ∷ 108 ∷ 105 ∷ 110 ∷ 101 ∷ 32 ∷ []) ++ decimal_bytes l) []
 
 -- `cursor off`, or `cursor ` and its position
-abbrev pub cursor_line : ℕ → Cursor → List ℕ
-cursor_line lines Off = 99 ∷ 117 ∷ 114 ∷ 115 ∷ 111 ∷ 114 ∷ 32 ∷ 111 ∷ 102 ∷ 102 ∷ 10 ∷ []
-cursor_line lines (At l p) = (99 ∷ 117 ∷ 114 ∷ 115 ∷ 111 ∷ 114 ∷ 32 ∷ []) ++ (decimal_bytes p ++ (line_after lines l ++ 10 ∷ []))
+abbrev pub cursor_line : ℕ → Option Spot → List ℕ
+cursor_line lines None = 99 ∷ 117 ∷ 114 ∷ 115 ∷ 111 ∷ 114 ∷ 32 ∷ 111 ∷ 102 ∷ 102 ∷ 10 ∷ []
+cursor_line lines (Some spot) = (99 ∷ 117 ∷ 114 ∷ 115 ∷ 111 ∷ 114 ∷ 32 ∷ []) ++ (decimal_bytes spot.position ++ (line_after lines spot.line ++ 10 ∷ []))
 
 -- a text for each line, codes for each line, the cursor and the written places
 abbrev pub beneath_bytes : Panel → List ℕ

@@ -1,11 +1,13 @@
 -- The drawing and the bitmap, made of the dots of a chip's frame (docs/WALL.md, "The mode", "The print", "Cells apart").
-use Rattle.std.specs.Prelude.{ℕ, zero, suc, ◌+◌, ◌-◌, ◌*◌, ◌/◌, Bool, ◌&&◌, List, [], ◌∷◌, ◌++◌}
+use Rattle.std.specs.Prelude.{ℕ, zero, suc, ◌+◌, ◌-◌, ◌*◌, ◌/◌, Bool, true, false, ◌&&◌, List, [], ◌∷◌, ◌++◌}
 use Rattle.laws.specs.Pick.{pick}
 use Rattle.laws.specs.Bit.{one}
 use Rattle.dots.specs.Table.{table}
 use Rattle.mirror.specs.declared.panel.Panel.{Panel}
 use Rattle.picture.specs.Mode.{upright_of}
 use Rattle.picture.specs.Frame.{bytes_across, lit_at}
+use Rattle.wall.specs.declared.glass.Form.{Form}
+use Rattle.wall.specs.declared.glass.Form.TheVariants.{Blocks, Marks, Bitmap, Svg}
 use Rattle.wall.specs.Apart.{blank_at, columns_drawn, lit_drawn, rows_drawn}
 
 -- the panel that is drawn: with `upright` as it would be in mode A, and without it as it is (docs/WALL.md, "The mode")
@@ -36,6 +38,13 @@ pair_of upper lower =
 unfoldable pub strung : (ℕ → List ℕ) → ℕ → List ℕ
 strung h zero = []
 strung h (suc n) = strung h n ++ h n
+
+-- what is drawn is drawn by pairs of dots, but for what is drawn by marks
+abbrev pub by_pairs : Form → Bool
+by_pairs Blocks = true
+by_pairs Marks = false
+by_pairs Bitmap = true
+by_pairs Svg = true
 
 -- a line between two bars
 abbrev pub barred : List ℕ → List ℕ

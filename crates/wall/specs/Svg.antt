@@ -24,16 +24,16 @@ square_bytes r x =
     (((77 ∷ decimal_bytes (corner_of x)) ++ (32 ∷ [])) ++ decimal_bytes (corner_of r)) ++ (104 ∷ 51 ∷ 118 ∷ 51 ∷ 104 ∷ 45 ∷ 51 ∷ 122 ∷ [])
 
 -- the square of a dot that is lit, or of one that is not; there is none in the gaps
-abbrev pub dot_bytes : ℕ → List ℕ → Bool → ℕ → ℕ → List ℕ
-dot_bytes chip f lit r x = pick (blank_at true r x) [] (pick (not (beq (lit_drawn true chip f r x) lit)) [] (square_bytes r x))
+abbrev pub dot_bytes : Bool → ℕ → List ℕ → Bool → ℕ → ℕ → List ℕ
+dot_bytes apart chip f lit r x = pick (blank_at apart r x) [] (pick (not (beq (lit_drawn apart chip f r x) lit)) [] (square_bytes r x))
 
 -- those of a row, from the left
-abbrev pub row_squares : ℕ → List ℕ → Bool → ℕ → List ℕ
-row_squares chip f lit r = strung (dot_bytes chip f lit r) (columns_drawn true)
+abbrev pub row_squares : Bool → ℕ → List ℕ → Bool → ℕ → List ℕ
+row_squares apart chip f lit r = strung (dot_bytes apart chip f lit r) (columns_drawn apart)
 
--- by rows, from the top
+-- by rows, from the top, the cells apart
 abbrev pub all_squares : ℕ → List ℕ → Bool → List ℕ
-all_squares chip f lit = strung (row_squares chip f lit) (rows_drawn true chip)
+all_squares chip f lit = strung (row_squares true chip f lit) (rows_drawn true chip)
 
 -- a character of the text: &lt; for <, &gt; for >, &amp; for &, and all others as they are
 abbrev pub escaped_of : ℕ → List ℕ

@@ -2,4 +2,3 @@ pub mod Apart
 pub mod Bitmap
 pub mod Watch
 pub mod Lines
-pub mod Look

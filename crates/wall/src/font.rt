@@ -1,6 +1,5 @@
 // The font that the program has of its own, drawn in fonts/harbour.txt: codes 10h to FFh, eight rows each from the top, five
 // dots in the low bits.
-use desk::bytes::Bytes;
 use picture::pattern::FONT_SIZE;
 
 const FONT: [u8; FONT_SIZE] = [
@@ -71,15 +70,7 @@ const FONT: [u8; FONT_SIZE] = [
     0, 0, 0, 0, 0, 0, 0, 0, 0, 0,
 ];
 
-// The font as bytes of a file.
-pub(crate) fn built_in() -> Bytes {
-    let mut bytes = io::buffer();
-    for i in 0..FONT_SIZE {
-        bytes[i] = FONT[i];
-    }
-    Bytes {
-        ok: true,
-        bytes,
-        len: FONT_SIZE,
-    }
+// The font as it stands in a file.
+pub(crate) fn built_in() -> &'static [u8] {
+    &FONT
 }

@@ -1,214 +1,153 @@
 // The picture again and again, as the log comes. A picture and the three lines beneath it are gathered on a page, and on a
 // terminal drawn over the last ones.
-ghost use Rattle.std.specs.Prelude.{◌≤◌};
-
-use crate::follow::{Followed, follow_part};
-use crate::glass::{Wanted, put_picture};
+use crate::follow::Followed;
+use crate::glass::Wanted;
 use crate::look::{Look, alike, look_of};
-use crate::status::{Last, put_answers, put_clock_line, put_last};
-use crate::watch::FOREVER;
-use check::same;
-use desk::bytes::{Bytes, held};
-use desk::clock::put_number;
-use desk::input::{BLOCK, Input};
-use desk::page::{PAGE, put, write_out};
-use desk::print::show;
-use mirror::panel::Panel;
+use crate::status::{put_answers, put_clock_line, put_last};
+use desk::input::{BLOCK, each_block};
+use desk::page::Page;
+use desk::print::{Stopped, show};
+use desk::progress::Progress;
 use mirror::stream::Stream;
 use std::io::IsTerminal;
 
-// A picture: what it is made of, and its bytes.
+// A picture: what it is made of, and the page that it stands on.
 #[derive(Clone, Copy)]
 pub struct Drawn {
     look: Look,
-    page: [u8; PAGE],
-    end: usize,
+    page: Page,
 }
 
-// How the pictures are written: with this font, in this form, to a terminal or not.
+// How a picture stands to the one before it.
+#[derive(Clone, Copy, PartialEq, Eq)]
+enum Change {
+    First,
+    Other,
+    Same,
+}
+
+// How the pictures are written, to a terminal or not; what was heard so far, and the picture that stands.
 #[derive(Clone, Copy)]
-pub struct Way {
-    font: Bytes,
-    wanted: Wanted,
+struct Living<'a> {
+    wanted: Wanted<'a>,
     terminal: bool,
+    heard: Followed,
+    drawn: Option<Drawn>,
 }
 
-fn drawn_of(panel: Panel, way: Way) -> Drawn {
-    let font = way.font;
-    let wanted = way.wanted;
-    let sheet = panel.sheet;
-    let mut page = [0u8; PAGE];
-    let end = put_picture(&mut page, panel, font, wanted);
-    let look = look_of(sheet);
-    Drawn { look, page, end }
-}
-
-// Whether two pages hold the same up to their ends.
-fn same_pages(a: [u8; PAGE], end: usize, b: [u8; PAGE], other: usize) -> bool {
-    let m = held(&a, end);
-    let n = held(&b, other);
-    same(&a[..m], &b[..n])
-}
-
-fn put_status(page: &mut [u8; PAGE], at: usize, heard: Followed) -> usize {
-    let last = heard.last;
-    let stream = heard.stream;
-    let run = stream.end();
-    let panel = run.panel;
-    let counts = run.counts;
-    let a = put_clock_line(page, at, panel.last);
-    let b = put_answers(page, a, counts);
-    put_last(page, b, last)
+fn put_status(page: &mut Page, heard: &Followed) {
+    let run = heard.stream.end();
+    put_clock_line(page, run.panel.last);
+    put_answers(page, run.counts);
+    put_last(page, heard.last);
 }
 
 // How many lines the bytes are.
 fn lines_in(bytes: &[u8]) -> usize {
-    let mut lines: usize = 0;
-    for i in 0..bytes.len() {
-        if bytes[i] == b'\n' {
-            lines += 1;
-        }
-    }
-    lines
+    bytes.iter().filter(|byte| **byte == b'\n').count()
 }
 
 // The cursor of the terminal to the front of the line so many lines up.
-fn put_up(page: &mut [u8; PAGE], at: usize, lines: usize) -> usize {
-    let start = put(page, at, b"\x1B[");
-    let end = put_number(page, start, lines as u64);
-    put(page, end, b"A\r")
+fn put_up(page: &mut Page, lines: usize) {
+    page.put(b"\x1B[");
+    page.put_number(lines as u64);
+    page.put(b"A\r");
 }
 
 // Lines that are written over others: each clears what stood there.
-fn put_over(page: &mut [u8; PAGE], at: usize, bytes: &[u8]) -> usize {
-    let mut end = at;
-    let mut begins = true;
-    for i in 0..bytes.len() {
-        if begins {
-            end = put(page, end, b"\x1B[K");
-        }
-        end = put(page, end, &[bytes[i]]);
-        begins = bytes[i] == b'\n';
+fn put_over(page: &mut Page, bytes: &[u8]) {
+    for line in bytes.split_inclusive(|byte| *byte == b'\n') {
+        page.put(b"\x1B[K");
+        page.put(line);
     }
-    end
 }
 
 // Over the lines that stand there, or, the first time, with the cursor hidden and long lines cut.
-fn write_over(lines: &[u8], first: bool) {
-    let mut page = [0u8; PAGE];
-    let start = if first {
-        put(&mut page, 0, b"\x1B[?25l\x1B[?7l")
+fn write_over(lines: &[u8], change: Change) {
+    let mut page = Page::blank();
+    if change == Change::First {
+        page.put(b"\x1B[?25l\x1B[?7l");
     } else {
-        put_up(&mut page, 0, lines_in(lines))
-    };
-    let end = put_over(&mut page, start, lines);
-    write_out(&page, end);
-}
-
-// Where the lines to be written begin: at the front, or, where the picture stands, after it.
-fn from(changed: bool, picture: usize, end: usize) -> usize
-    ensures { result ≤ end }
-{
-    if changed {
-        return 0;
+        put_up(&mut page, lines_in(lines));
     }
-    if picture < end { picture } else { end }
+    put_over(&mut page, lines);
+    page.write_out();
 }
 
-// The picture and its three lines, or, where it has not changed, these three alone, and to a terminal alone.
-fn write_lines(
-    page: &[u8; PAGE],
-    picture: usize,
-    end: usize,
-    terminal: bool,
-    first: bool,
-    changed: bool,
-) {
-    let all: &[u8] = page;
-    let n = held(all, end);
-    if terminal {
-        let start = from(changed, picture, n);
-        write_over(&all[start..n], first);
-    } else if changed {
-        show(&all[..n]);
-    }
-}
-
-fn write_picture(drawn: Drawn, heard: Followed, terminal: bool, first: bool, changed: bool) {
-    let mut page = drawn.page;
-    let picture = drawn.end;
-    let end = put_status(&mut page, picture, heard);
-    write_lines(&page, picture, end, terminal, first, changed);
-}
-
-// The picture after a part. Where it is made of the same, nothing is painted.
-fn drawn_after(before: Drawn, panel: Panel, way: Way) -> Drawn {
-    let sheet = panel.sheet;
-    let look = before.look;
-    if alike(look_of(sheet), look) {
-        return before;
-    }
-    drawn_of(panel, way)
-}
-
-// The next picture, written where it is another one.
-fn draw_again(before: Drawn, heard: Followed, way: Way) -> Drawn {
-    let stream = heard.stream;
-    let drawn = drawn_after(before, stream.panel(), way);
-    let page = drawn.page;
-    let old = before.page;
-    let changed = !same_pages(page, drawn.end, old, before.end);
-    write_picture(drawn, heard, way.terminal, false, changed);
-    drawn
-}
-
-// The rest of standard input, after the first picture.
-fn draw_rest(
-    rt: &HostRuntime,
-    first: Input,
-    heard: Followed,
-    drawn: Drawn,
-    way: Way,
-    block: &mut [u8],
-) {
-    let mut input = first;
-    let mut heard = heard;
-    let mut drawn = drawn;
-    while input.left > 0 {
-        input = input.read(rt, block);
-        let n = input.len;
-        if n > 0 {
-            heard = follow_part(heard, FOREVER, &block[..n]);
-            drawn = draw_again(drawn, heard, way);
+impl Living<'_> {
+    // The picture of what was heard.
+    fn picture(&self) -> Drawn {
+        let panel = self.heard.stream.panel();
+        let mut page = Page::blank();
+        self.wanted.put_picture(&mut page, panel);
+        Drawn {
+            look: look_of(panel.sheet),
+            page,
         }
+    }
+
+    // The picture and its three lines, or, where it has not changed, these three alone, and to a terminal alone.
+    fn write(&self, drawn: &Drawn, change: Change) {
+        let mut page = drawn.page;
+        put_status(&mut page, &self.heard);
+        let all = page.as_slice();
+        match (self.terminal, change) {
+            (true, Change::Same) => write_over(&all[drawn.page.end.min(all.len())..], change),
+            (true, _) => write_over(all, change),
+            (false, Change::Same) => {}
+            (false, _) => show(all),
+        }
+    }
+
+    // The next picture, written where it is another one. Where it is made of the same, nothing is painted.
+    fn after(&self, before: Drawn) -> Drawn {
+        if alike(look_of(self.heard.stream.panel().sheet), before.look) {
+            self.write(&before, Change::Same);
+            return before;
+        }
+        let drawn = self.picture();
+        let same = drawn.page.as_slice() == before.page.as_slice();
+        self.write(&drawn, if same { Change::Same } else { Change::Other });
+        drawn
+    }
+
+    fn first(&self) -> Drawn {
+        let drawn = self.picture();
+        self.write(&drawn, Change::First);
+        drawn
+    }
+
+    // What a read brought, nothing at the end.
+    fn hear(&mut self, part: &[u8]) {
+        // No time is asked for, so none is too late.
+        let _ = self.heard.follow(None, part);
+        self.drawn = match self.drawn {
+            Some(before) if part.is_empty() => Some(before),
+            Some(before) => Some(self.after(before)),
+            None => Some(self.first()),
+        };
     }
 }
 
 // The whole of standard input: a picture after the first read, and one for each that shows another.
-pub(crate) fn live(rt: &HostRuntime, start: Stream, font: Bytes, wanted: Wanted) {
+pub(crate) fn show_living(
+    rt: &HostRuntime,
+    start: Stream,
+    wanted: Wanted<'_>,
+) -> Result<(), Stopped> {
     let mut block = [0; BLOCK];
-    let terminal = rt.stdout().is_terminal();
-    let way = Way {
-        font,
+    let mut living = Living {
         wanted,
-        terminal,
+        terminal: rt.stdout().is_terminal(),
+        heard: Followed::start(start),
+        drawn: None,
     };
-    let input = Input::start().read(rt, &mut block);
-    if input.failed {
-        return;
-    }
-    let n = held(&block, input.len);
-    let begun = Followed {
-        stream: start,
-        last: Last::Nothing,
-        more: true,
-    };
-    let heard = follow_part(begun, FOREVER, &block[..n]);
-    let stream = heard.stream;
-    let drawn = drawn_of(stream.panel(), way);
-    write_picture(drawn, heard, terminal, true, true);
-    draw_rest(rt, input, heard, drawn, way, &mut block);
-    if terminal {
+    let read = each_block(rt, b"wall", Progress::hidden(), &mut block, |_, part| {
+        living.hear(part);
+        true
+    });
+    if living.terminal && living.drawn.is_some() {
         show(b"\x1B[?7h\x1B[?25h");
     }
+    read
 }

@@ -15,18 +15,18 @@ mod svg;
 mod watch;
 mod written;
 
+use buffer::buffer::Buffer;
 use desk::arguments::{GROUPS, Given, asked};
-use desk::bytes::{Bytes, load};
-use desk::input::BLOCK;
-use desk::number::{Number, number_at};
-use desk::print::complain;
-use desk::told::{Told, told_at};
-use glass::{Wanted, show_glass};
-use live::live;
+use desk::bytes::{ROOM, load};
+use desk::number::number_at;
+use desk::print::{Stopped, complain};
+use desk::told::told_at;
+use glass::{Form, Wanted};
+use live::show_living;
 use mirror::panel::Panel;
 use mirror::stream::Stream;
 use picture::pattern::FONT_SIZE;
-use watch::{FOREVER, watch_all};
+use watch::watch_all;
 
 // The groups of arguments.
 const ASCII: usize = 0;
@@ -51,118 +51,79 @@ const CHIP: usize = 9;
 
 const TIMES: usize = 10;
 
+// No record's time is later.
+const LATEST: u64 = 281474976710656;
+
 // Of the three ways to write a picture one is taken.
-fn one_form(ascii: bool, pbm: bool, svg: bool) -> bool {
-    if (ascii & pbm) | (ascii & svg) | (pbm & svg) {
-        complain(b"wall", b"takes one of ascii, pbm and svg");
-        return false;
+fn one_form(ascii: bool, pbm: bool, svg: bool) -> Result<Form, Stopped> {
+    match (ascii, pbm, svg) {
+        (false, false, false) => Ok(Form::Blocks),
+        (true, false, false) => Ok(Form::Marks),
+        (false, true, false) => Ok(Form::Bitmap),
+        (false, false, true) => Ok(Form::Svg),
+        _ => Err(complain(b"wall", b"takes one of ascii, pbm and svg")),
     }
-    true
 }
 
 // A picture at a time ends, and a bitmap or an SVG is a file with one picture.
-fn live_alone(live: bool, pbm: bool, svg: bool, at: bool) -> bool {
-    if live & (pbm | svg | at) {
-        complain(b"wall", b"takes live without pbm, svg and at");
-        return false;
+fn live_alone(live: bool, form: Form, at: bool) -> Result<(), Stopped> {
+    if live && (at || matches!(form, Form::Bitmap | Form::Svg)) {
+        return Err(complain(b"wall", b"takes live without pbm, svg and at"));
     }
-    true
+    Ok(())
 }
 
 // The bitmap is the frame as it is.
-fn whole_bitmap(apart: bool, pbm: bool) -> bool {
-    if apart & pbm {
-        complain(b"wall", b"takes apart without pbm");
-        return false;
+fn whole_bitmap(apart: bool, form: Form) -> Result<(), Stopped> {
+    if apart && matches!(form, Form::Bitmap) {
+        return Err(complain(b"wall", b"takes apart without pbm"));
     }
-    true
+    Ok(())
 }
 
-// Whether the words that were given stand together; where not, a line was written.
-fn stand_together(places: [usize; GROUPS]) -> bool {
-    let pbm = places[PBM] != 0;
-    let svg = places[SVG] != 0;
-    let live = places[LIVE] != 0;
-    if !one_form(places[ASCII] != 0, pbm, svg) {
-        return false;
-    }
-    if !live_alone(live, pbm, svg, places[AT] != 0) {
-        return false;
-    }
-    whole_bitmap(places[APART] != 0, pbm)
+// The form that the words ask for, which have to stand together.
+fn form_of(places: [Option<usize>; GROUPS]) -> Result<Form, Stopped> {
+    let form = one_form(
+        places[ASCII].is_some(),
+        places[PBM].is_some(),
+        places[SVG].is_some(),
+    )?;
+    live_alone(places[LIVE].is_some(), form, places[AT].is_some())?;
+    whole_bitmap(places[APART].is_some(), form)?;
+    Ok(form)
 }
 
 // The time to stop at.
-fn time_at(rt: &HostRuntime, place: usize) -> Number {
-    if place == 0 {
-        return Number {
-            ok: true,
-            value: FOREVER,
-        };
-    }
-    let time = number_at(rt, place, FOREVER);
-    if !time.ok {
-        complain(b"wall", b"at takes a time of at most 281474976710656");
-    }
-    time
+fn time_at(rt: &HostRuntime, place: usize) -> Result<u64, Stopped> {
+    number_at(rt, place, LATEST).ok_or_else(|| complain(
+        b"wall",
+        b"at takes a time of at most 281474976710656",
+    ))
 }
 
-// The font that an argument names; the program's own where there is none.
-fn font_at(rt: &HostRuntime, place: usize) -> Bytes {
-    if place == 0 {
-        return font::built_in();
+// The font that an argument names.
+fn font_at(rt: &HostRuntime, place: usize) -> Result<Buffer<ROOM>, Stopped> {
+    let font = load(rt, place)?;
+    if font.as_slice().len() != FONT_SIZE {
+        return Err(complain(b"wall", b"a font has 1920 bytes"));
     }
-    let file = load(rt, place);
-    if !file.ok {
-        return file;
-    }
-    if file.len == FONT_SIZE {
-        return file;
-    }
-    complain(b"wall", b"a font has 1920 bytes");
-    Bytes { ok: false, ..file }
-}
-
-// The form in which the glass is shown. Live, the cells stand apart.
-fn wanted_of(places: [usize; GROUPS]) -> Wanted {
-    Wanted {
-        bitmap: places[PBM] != 0,
-        svg: places[SVG] != 0,
-        marks: places[ASCII] != 0,
-        apart: (places[APART] != 0) | (places[LIVE] != 0),
-        dark: places[DARK] != 0,
-        upright: places[UPRIGHT] != 0,
-    }
+    Ok(font)
 }
 
 // Watches the log up to the time, then shows what the glass did.
-fn show_once(rt: &HostRuntime, start: Stream, until: u64, font: Bytes, wanted: Wanted) {
-    let mut block = [0; BLOCK];
-    let seen = watch_all(rt, start, until, &mut block);
-    if seen.failed {
-        return;
-    }
-    let stream = seen.stream;
-    let run = stream.end();
-    let panel = run.panel;
-    show_glass(panel, font, wanted);
-}
-
-// Shows the glass as the log comes, or once.
-fn show_all(rt: &HostRuntime, places: [usize; GROUPS], told: Told, until: u64, font: Bytes) {
-    let times = told.times;
-    let fresh = Panel::fresh(told.chip, times.reset, times.long, times.short);
-    let start = Stream::start(fresh);
-    let wanted = wanted_of(places);
-    if places[LIVE] != 0 {
-        live(rt, start, font, wanted);
-    } else {
-        show_once(rt, start, until, font, wanted);
-    }
+fn show_once(
+    rt: &HostRuntime,
+    start: Stream,
+    until: Option<u64>,
+    wanted: Wanted<'_>,
+) -> Result<(), Stopped> {
+    let stream = watch_all(rt, start, until)?;
+    wanted.show(stream.end().panel);
+    Ok(())
 }
 
 // What was asked for.
-fn arguments(rt: &HostRuntime) -> Given {
+fn arguments(rt: &HostRuntime) -> Result<Given, Stopped> {
     asked(
         rt,
         b"wall",
@@ -184,26 +145,33 @@ fn arguments(rt: &HostRuntime) -> Given {
     )
 }
 
+fn run(rt: &HostRuntime) -> Result<(), Stopped> {
+    let places = arguments(rt)?.places;
+    let form = form_of(places)?;
+    let told = told_at(rt, b"wall", places[CHIP], places[TIMES])?;
+    let until = places[AT].map(|place| time_at(rt, place)).transpose()?;
+    let named = places[FONT].map(|place| font_at(rt, place)).transpose()?;
+    let living = places[LIVE].is_some();
+    // Live, the cells stand apart.
+    let wanted = Wanted {
+        form,
+        font: match &named {
+            Some(font) => font.as_slice(),
+            None => font::built_in(),
+        },
+        apart: places[APART].is_some() || living,
+        dark: places[DARK].is_some(),
+        upright: places[UPRIGHT].is_some(),
+    };
+    let times = told.times;
+    let start = Stream::start(Panel::fresh(told.chip, times.reset, times.long, times.short));
+    if living {
+        show_living(rt, start, wanted)
+    } else {
+        show_once(rt, start, until, wanted)
+    }
+}
+
 fn main(rt: HostRuntime) {
-    let given = arguments(&rt);
-    if !given.ok {
-        return;
-    }
-    let places = given.places;
-    if !stand_together(places) {
-        return;
-    }
-    let told = told_at(&rt, b"wall", places[CHIP], places[TIMES]);
-    if !told.ok {
-        return;
-    }
-    let until = time_at(&rt, places[AT]);
-    if !until.ok {
-        return;
-    }
-    let font = font_at(&rt, places[FONT]);
-    if !font.ok {
-        return;
-    }
-    show_all(&rt, places, told, until.value, font);
+    let _ = run(&rt);
 }

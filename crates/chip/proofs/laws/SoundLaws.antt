@@ -1,7 +1,8 @@
 -- A sound sheet stays sound under every step.
-use Rattle.std.specs.Prelude.{ℕ, zero, suc, ◌+◌, ◌*◌, ◌%◌, ◌<◌, ◌≤◌, ◌≡◌, refl, Bool, true, false, not, List, [], ◌∷◌, length, get_or, set, drop, replicate, ltb, leb, eqb}
-use Rattle.std.proofs.Common.{sym, ap, ◌∙◌, arith, add-one, mod-lt, drop_of_length-le, drop-cons, leb-false, eqb-true, eq-eqb, lt-ltb}
-use Rattle.std.proofs.lemmas.Bool.{not-false, lt-leb}
+use Rattle.std.specs.Prelude.{ℕ, zero, suc, ◌*◌, ◌%◌, ◌<◌, ◌≡◌, refl, Bool, true, false, not, List, [], ◌∷◌, set, drop, replicate, ltb, leb, eqb}
+use Rattle.std.proofs.Common.{sym, ap, ◌∙◌, arith, mod-lt, leb-false, eqb-true, eq-eqb, lt-ltb}
+use Rattle.std.specs.List.{list_all}
+use Rattle.std.proofs.lemmas.Bool.{not-false, lt-leb, and_parts, and_from}
 use Rattle.laws.specs.Pick.{pick}
 use Rattle.laws.specs.Ring.{moved}
 use Rattle.laws.specs.Bit.{with_bit}
@@ -12,8 +13,8 @@ use Rattle.chip.specs.Address.{display, pattern, moved_address, in_display}
 use Rattle.chip.specs.Sheet.{fresh_sheet}
 use Rattle.chip.specs.Instruction.{is_set, unset, decoded}
 use Rattle.chip.specs.Step.{homed, cleared, entered, screen_set, stepped, shifted, function_set, address_set, next_good, acted, obeyed, stored_at, followed, shifts_at, written, passed}
-use Rattle.chip.specs.Written.{unblank, is_written, written_in}
-use Rattle.chip.specs.Sound.{address_fits, faultless, six_bits, blank_past, pattern_fits, sound_sheet}
+use Rattle.chip.specs.Written.{is_written, written_in}
+use Rattle.chip.specs.Sound.{address_fits, blank_past, pattern_fits, sound_sheet}
 use Rattle.chip.proofs.laws.SizesLaws.{places}
 use Rattle.chip.proofs.laws.WrittenLaws.{walk_stored, walk_blank}
 use Rattle.chip.specs.declared.address.Address.{Address}
@@ -21,16 +22,6 @@ use Rattle.chip.specs.declared.address.Address.TheVariants.{Display, Pattern}
 use Rattle.chip.specs.declared.instruction.Instruction.{Instruction}
 use Rattle.chip.specs.declared.instruction.Instruction.TheVariants.{Nothing, Clear, Home, Entry, Screen, Move, Shift, Function, Set}
 use Rattle.chip.specs.declared.sheet.Sheet.{Sheet}
-
--- what is left of a list, from a number on
-pub faultless_here : (fault : ℕ → Bool) (s : List ℕ) (i : ℕ) → i < length s → faultless fault (drop i s) ≡ pick (fault (get_or s i 0)) false (faultless fault (drop (i + 1) s))
-unfolding faultless
-faultless_here fault s i h = rw (add-one, drop-cons s i 0)
-
--- and past the last
-pub faultless_end : (fault : ℕ → Bool) (s : List ℕ) (i : ℕ) → length s ≤ i → faultless fault (drop i s) ≡ true
-unfolding faultless
-faultless_end fault s i h = rw (drop_of_length-le s h)
 
 -- soundness, part by part
 pub record Sound (s : Sheet) : Type 0 where
@@ -82,14 +73,11 @@ moved_fits : (chip : ℕ) (up : Bool) (a : Address) → address_fits chip (moved
 moved_fits chip up (Display d) = round_fits (places_of chip) up d.0 (places chip).some
 moved_fits chip up (Pattern p) = round_fits pattern_size up p.0 (omega arith)
 
--- a number without the fault stored among such numbers
-set_faultless : (fault : ℕ → Bool) (l : List ℕ) (i x : ℕ) → fault x ≡ false → faultless fault l ≡ true → faultless fault (set l i x) ≡ true
-unfolding faultless
-set_faultless fault [] i x h e = refl
-set_faultless fault (y ∷ l) zero x h e = ap (λ b. pick b false (faultless fault l)) h ∙ (past (fault y) e).later
-set_faultless fault (y ∷ l) (suc i) x h e =
-    let p = past (fault y) e in
-    ap (λ b. pick b false (faultless fault (set l i x))) p.here ∙ set_faultless fault l i x h p.later
+-- a number that passes a test stored among such numbers
+set_all : (test : ℕ → Bool) (l : List ℕ) (i x : ℕ) → test x ≡ true → list_all test l ≡ true → list_all test (set l i x) ≡ true
+set_all test [] i x h e = refl
+set_all test (y ∷ l) zero x h e = and_from _ _ h (and_parts _ _ e).1
+set_all test (y ∷ l) (suc i) x h e = let p = and_parts (test y) (list_all test l) e in and_from _ _ p.0 (set_all test l i x h p.1)
 
 -- what is stored before a place leaves what lies past it
 drop_set : (l : List ℕ) (n i x : ℕ) → i < n → drop n (set l i x) ≡ drop n l
@@ -100,10 +88,9 @@ drop_set (y ∷ l) (suc n) (suc i) x h = drop_set l n i x (omega arith)
 
 -- a memory that is blank throughout is blank past any chip's places
 cleared_blank : (chip : ℕ) → blank_past chip (replicate display_size space) ≡ true
-unfolding faultless
 cleared_blank chip = by (eqb chip two_lines)
   where
-    by : (b : Bool) → faultless unblank (drop (pick b 2 1 * positions) (replicate display_size space)) ≡ true
+    by : (b : Bool) → list_all (λ x. eqb x space) (drop (pick b 2 1 * positions) (replicate display_size space)) ≡ true
     by true = refl
     by false = refl
 
@@ -112,7 +99,6 @@ first_fits : (chip : ℕ) → address_fits chip (Display (display 0)) ≡ true
 first_fits chip = lt-ltb 0 (places_of chip) (places chip).some
 
 pub fresh_sound : (chip : ℕ) → is_known chip ≡ true → Sound (fresh_sheet chip)
-unfolding faultless
 fresh_sound chip k =
     record { known = k; address = first_fits chip; shift = omega arith; function = omega arith; blank = cleared_blank chip; written = sym (walk_blank display_size); entries = refl }
 
@@ -186,7 +172,7 @@ stored_sound (Display d) byte s h =
       address = h.address;
       shift = h.shift;
       function = h.function;
-      blank = ap (faultless unblank) kept ∙ h.blank;
+      blank = ap (list_all (λ x. eqb x space)) kept ∙ h.blank;
       written = ap (with_bit display_size (d.0 % n) (is_written (set s.display (d.0 % n) byte) (d.0 % n))) h.written ∙ walk_stored display_size s.display (d.0 % n) byte;
       entries = h.entries;
     }
@@ -198,7 +184,7 @@ stored_sound (Pattern p) byte s h =
       function = h.function;
       blank = h.blank;
       written = h.written;
-      entries = set_faultless six_bits s.pattern (p.0 % pattern_size) (byte % row_end) (lt-leb row_end (byte % row_end) (mod-lt byte (omega arith))) h.entries;
+      entries = set_all (λ x. ltb x row_end) s.pattern (p.0 % pattern_size) (byte % row_end) (lt-ltb _ row_end (mod-lt byte (omega arith))) h.entries;
     }
 
 followed_sound : (shifts : Bool) (s : Sheet) → Sound s → Sound (followed shifts s)

@@ -1,18 +1,23 @@
 -- The bits of the written places are the walk's answer, over any number of places.
-use Rattle.std.specs.Prelude.{ℕ, zero, suc, ◌+◌, ◌-◌, ◌*◌, ◌%◌, ◌^◌, ◌<◌, ◌≤◌, ◌≡◌, refl, Bool, true, false, List, [], ◌∷◌, length, get_or, set, drop, replicate, ltb, eqb}
-use Rattle.std.proofs.Common.{sym, ap, ◌∙◌, arith, lt_of_lt_of_le, not-suc-le-zero, le_of_suc-le-suc, pow_mono, length-drop, get_or-set_same, get_or-set_other, drop-cons, get_or-drop, eqb-true, le-ltb}
+use Rattle.std.specs.Prelude.{ℕ, zero, suc, ◌+◌, ◌-◌, ◌*◌, ◌%◌, ◌^◌, ◌<◌, ◌≤◌, ◌≡◌, refl, Bool, true, false, not, List, [], ◌∷◌, length, get_or, set, drop, replicate, reverse, ltb, eqb}
+use Rattle.std.proofs.Common.{sym, ap, ◌∙◌, arith, lt_of_lt_of_le, pow_mono, length-drop, get_or-set_same, get_or-set_other, get_or-drop, eqb-true, le-ltb}
 use mir.Val.{bool_byte}
+use lib.Pow.{shl_exact}
+use Rattle.std.specs.List.{fold}
+use Rattle.std.specs.Int.Bits.{bit_or, bit_xor}
 use Rattle.std.proofs.lemmas.Bool.{eqb-false}
+use Rattle.std.proofs.lemmas.Grind.{fold-append, reverse_onto, or_after_shift}
+use Rattle.std.proofs.lemmas.List.Sums.{AllPass-from_list_all}
+use Rattle.std.proofs.iter.runs.Made.{chains}
 use Rattle.laws.specs.Pick.{pick}
 use Rattle.laws.specs.Bit.{bit, one, pack, with_bit}
-use Rattle.laws.specs.laws.PickLaws.{past}
-use Rattle.laws.specs.laws.BitLaws.{one_lt, bit_pack, pack_ext, pack_lt, with_pack}
+use Rattle.laws.specs.laws.BitLaws.{one_lt, bit_pack, pack_ext, pack_lt, with_pack, bit_anew}
 use Rattle.chip.specs.Sizes.{places_of, display_size, pattern_size, function_end, space}
 use Rattle.chip.specs.Address.{display, pattern}
 use Rattle.chip.specs.Instruction.{is_set, unset, decoded}
 use Rattle.chip.specs.Written.{unblank, is_written, written_in}
 use Rattle.chip.specs.Step.{obeyed, stored_display, stored_at, stepped, next_good, followed, written_at, passed}
-use Rattle.chip.specs.Sound.{faultless, blank_past}
+use Rattle.chip.specs.Sound.{blank_past}
 use Rattle.chip.proofs.laws.SizesLaws.{place_below}
 use Rattle.chip.proofs.laws.CodeLaws.{Keeps, either, kept}
 use Rattle.chip.proofs.laws.CodeLaws.Keeps.{keeps}
@@ -55,17 +60,39 @@ unfolding pack
 walk_blank zero = refl
 walk_blank (suc n) = ap (λ (x : ℕ). 0 + 2 * x) (walk_blank n)
 
-walk_next : (n : ℕ) (s : List ℕ) (i : ℕ) → i < length s → written_in (suc n) (drop i s) ≡ one (unblank (get_or s i 0)) + 2 * written_in n (drop (suc i) s)
-unfolding pack
-walk_next n s i h = rw (drop-cons s i 0)
+-- one turn of the walk, from the last place down: a number of less than 32 bits, and the next bit below it
+abbrev pub turn : ℕ → ℕ → ℕ
+turn bits byte = bit_or (bits * 2 % 2 ^ display_size) (bool_byte (unblank byte))
 
--- the walk from a place on: its own bit, and twice those after it
-pub walk_here : (n : ℕ) (s : List ℕ) (i : ℕ) → suc i ≤ n → n ≤ length s →
-    written_in (n - suc i) (drop (suc i) s) * 2 + one (unblank (get_or s i 0)) ≡ written_in (n - i) (drop i s)
-walk_here n s i h l = sym (ap (λ (k : ℕ). written_in k (drop i s)) left ∙ walk_next (n - suc i) s i (omega arith) ∙ omega arith)
-  where
-    left : n - i ≡ suc (n - suc i)
-    left = omega arith
+turned : (bits byte : ℕ) → bits * 2 < 2 ^ display_size → turn bits byte ≡ one (unblank byte) + 2 * bits
+turned bits byte h =
+    or_after_shift bits 2 (2 ^ display_size) (bool_byte (unblank byte)) refl (omega (arith, one_lt (unblank byte), cast_bit (unblank byte))) h ∙ omega (arith, cast_bit (unblank byte))
+
+-- the walk is its turns over all places
+pub walk_turns : (m : List ℕ) → length m ≤ display_size → fold turn 0 (reverse m) ≡ written_in (length m) m
+unfolding pack
+walk_turns [] h = refl
+walk_turns (x ∷ m) h =
+    ap (fold turn 0) (reverse_onto m x []) ∙ fold-append turn 0 (reverse m) (x ∷ []) ∙ ap (λ b. turn b x) (walk_turns m (omega arith))
+    ∙ turned (written_in (length m) m) x (omega (arith, walk_lt (display_size - 1) (length m) m (omega arith)))
+
+pub walked : (m : List ℕ) {bits : ℕ} → length m ≡ display_size → bits ≡ fold turn 0 (reverse m) → bits ≡ written_in display_size m
+walked m size turns = turns ∙ walk_turns m (omega arith) ∙ ap (λ (n : ℕ). written_in n m) size
+
+pub ruleset walk = (walked, chains)
+
+-- one bit set by `or`, cleared by `xor` and set anew by `or`: what is shifted there stays in the number
+shifted : (b : Bool) (place : ℕ) → place < display_size → bool_byte b * 2 ^ place % 2 ^ display_size ≡ one b * 2 ^ place
+shifted b place h =
+    ap (λ (x : ℕ). x * 2 ^ place % 2 ^ display_size) (cast_bit b) ∙ shl_exact {a = one b} 1 place display_size (one_lt b) (omega arith)
+
+pub anew : (bits place : ℕ) (set : Bool) → place < display_size → bits < 2 ^ display_size →
+    let m = 1 * 2 ^ place % 2 ^ display_size in
+    bit_or (bit_xor (bit_or bits m) m) (bool_byte set * 2 ^ place % 2 ^ display_size) ≡ with_bit display_size place set bits
+anew bits place set h l =
+    ap (λ (m : ℕ). bit_or (bit_xor (bit_or bits m) m) (bool_byte set * 2 ^ place % 2 ^ display_size)) (shl_exact {a = 1} 1 place display_size (omega arith) (omega arith))
+    ∙ ap (λ (v : ℕ). bit_or (bit_xor (bit_or bits (1 * 2 ^ place)) (1 * 2 ^ place)) v) (shifted set place h)
+    ∙ bit_anew display_size place set bits h l
 
 -- a display write sets its one bit where the byte isn't 20h, and clears it where it is
 pub write_marks : (a : DisplayAddress) (byte : ℕ) (s : Sheet) → display_size ≤ length s.display →
@@ -113,15 +140,9 @@ code_leaves code s h = kept leaving s
         (either (ltb code 0x80) (keeps (Set (Pattern (pattern (code % pattern_size)))) (λ s. refl)) (keeps (Set (Display (display (code % places_of chip)))) (λ s. refl)))))))))
 
 -- a byte past the chip's own places is a space, so its bit is 0
-faultless_at : (fault : ℕ → Bool) (l : List ℕ) (i : ℕ) → i < length l → faultless fault l ≡ true → fault (get_or l i 0) ≡ false
-unfolding faultless
-faultless_at fault [] i h e = absurd (not-suc-le-zero h)
-faultless_at fault (x ∷ l) zero h e = (past (fault x) e).here
-faultless_at fault (x ∷ l) (suc i) h e = faultless_at fault l i (le_of_suc-le-suc h) (past (fault x) e).later
-
 pub past_unwritten : (chip : ℕ) (m : List ℕ) (a : ℕ) → blank_past chip m ≡ true → places_of chip ≤ a → a < length m → is_written m a ≡ false
 past_unwritten chip m a e l h =
     let n = places_of chip in
     let whole : n + (a - n) ≡ a = omega arith in
     ap (λ (i : ℕ). unblank (get_or m i 0)) (sym whole) ∙ ap unblank (sym (get_or-drop n m (a - n) 0))
-    ∙ faultless_at unblank (drop n m) (a - n) (omega (arith, length-drop n m)) e
+    ∙ ap not (AllPass-from_list_all (λ x. eqb x space) (drop n m) e (a - n) 0 (omega (arith, length-drop n m)))

@@ -1,16 +1,16 @@
 -- The chain from theorem to function holds.
-use Rattle.std.specs.Prelude.{ℕ, zero, suc, ◌+◌, ◌≤◌, ◌≡◌, refl, Bool, false, length, take, drop, eqb}
+use Rattle.std.specs.Prelude.{ℕ, zero, suc, ◌+◌, ◌≤◌, ◌≡◌, refl, Bool, false, length, take, drop, eqb, unwrap_or}
 use Rattle.std.proofs.Common.{arith, subst, ◌∙◌, length-drop, get_or-drop, eqb-true}
 use Rattle.std.proofs.Math.Path.{sym, ap}
 use Rattle.std.proofs.Math.Bool.{true}
 use mathlib.Core.List.{List, [], ◌∷◌, ◌++◌, append-nil, append_assoc}
 use Rattle.std.proofs.lemmas.Bool.{eqb-false}
 use Rattle.laws.specs.Pick.{pick}
-use Rattle.framing.specs.Frame.{frame_of, record_size, cut_at, whole_size, wants_more}
+use Rattle.framing.specs.Frame.{frame_of, record_size, cut_at, wants_more}
 use Rattle.framing.specs.Frames.{frames, tail, joined}
 use Rattle.framing.specs.laws.CutLaws.{none_want, wants_cut}
 use Rattle.framing.specs.laws.FrontLaws.{uncut_front}
-use Rattle.framing.specs.laws.FrameLaws.{frame_take, size_whole}
+use Rattle.framing.specs.laws.FrameLaws.{frame_take, size_record}
 use Rattle.framing.specs.laws.FramesLaws.{frames_cut, tail_cut, frames_next}
 use Rattle.framing.specs.Carry.{more, filled}
 use Rattle.mirror.specs.Panel.{sound_panel, fresh_panel}
@@ -23,14 +23,13 @@ use Rattle.mirror.specs.Answers.{ByteLog, Proper}
 use Rattle.mirror.specs.laws.TypedLaws.{proper_lasts, typed_proper}
 use Rattle.mirror.specs.Run.{started, onward}
 use Rattle.mirror.specs.laws.RunLaws.{answered_used, cut_used, uncut_used}
-use Rattle.mirror.specs.Stream.{start_as, start_of, waiting_bytes, rested_of, feed_of, next_of, end_of, run_of}
+use Rattle.mirror.specs.Stream.{StreamNext, start_as, start_of, waiting_bytes, rested_of, feed_of, next_of, end_of, run_of}
 use Rattle.mirror.specs.laws.StreamLaws.{fed, feed_append, feed_run}
 use Rattle.mirror.specs.laws.NextLaws.{next_over}
 use Rattle.mirror.specs.laws.AskedLaws.{one_record, taken_part, accepted, stands_at, frames_over, stream_over, frames_more, stream_more, cut_next, whole_next}
 use Rattle.mirror.specs.declared.panel.Panel.{Panel}
 use Rattle.mirror.specs.declared.record.Recorded.{Recorded}
 use Rattle.mirror.specs.declared.stream.Stream.{Stream}
-use Rattle.mirror.specs.declared.stream.Next.{Next}
 use Rattle.mirror.specs.declared.stream.Reply.TheVariants.{More, Cut}
 use Rattle.striking.specs.Machine.{run, final}
 use Rattle.demands.specs.Mirrors.{Response, out_of, machine_of}
@@ -51,8 +50,7 @@ module _ (p : Panel) (s : List ℕ) (l : Lasts p) where
 
   -- the bytes that it uses are the record's
   uses : cut_at s ≡ false → (record_of p s).used ≡ record_size s
-  unfolding whole_size
-  uses u = ap (λ (r : Recorded). r.used) by_frame ∙ answered_used (frame_of s) p ∙ size_whole s ∙ ap (λ b. pick b 0 (record_size s)) u
+  uses u = ap (λ (r : Recorded). r.used) by_frame ∙ answered_used (frame_of s) p ∙ size_record s u
 
   -- and the record alone is answered alike
   alone : cut_at s ≡ false → answered (frame_of (take (record_size s) s)) p ≡ record_of p s
@@ -146,8 +144,8 @@ module _ (p : Panel) where
       }
 
   module _ (log : List ℕ) (replies : List Response) (st : Stream) (h : Told p log replies st) (part : List ℕ) where
-    abbrev After : Next → Type 0
-    After n = Told p (log ++ take n.taken part) (replies ++ tells n.reply) n.stream
+    abbrev After : StreamNext → Type 0
+    After n = Told p (log ++ take n.taken part) (replies ++ tells n.reply) n.after
 
     -- a cut was met: nothing is taken or told
     over : st.over ≡ true → After (next_of st part)
@@ -166,9 +164,9 @@ module _ (p : Panel) where
       v = filled (waiting_bytes st) part
 
       -- the stream afterwards, whatever the call comes to
-      stream_is : (n : Next) → next_of st part ≡ n → n.taken ≡ length m → n.stream ≡ feed_of (start_as true p) (log ++ take n.taken part)
+      stream_is : (n : StreamNext) → next_of st part ≡ n → n.taken ≡ length m → n.after ≡ feed_of (start_as true p) (log ++ take n.taken part)
       stream_is n e t =
-          ap (λ (x : Next). x.stream) (sym e) ∙ stream_more p log st h.stream part going
+          ap (λ (x : StreamNext). x.after) (sym e) ∙ stream_more p log st h.stream part going
           ∙ ap (λ x. feed_of (start_as true p) (log ++ x)) (sym (taken_part st part) ∙ ap (λ k. take k part) (sym t))
 
       answers_are : (k : ℕ) → k ≡ length m → (fs : List (List ℕ)) → frames v ≡ fs →
@@ -246,7 +244,7 @@ chain p log h =
       left = c.panel ∙ q;
       nexts = λ replies st x. (told_all p h.sound x).replies_are ∙ a;
       stands = λ replies st x. let t = (told_all p h.sound x).stream in
-          ap (λ b. pick b st.given st.totals.panel) (accepted p log st t) ∙ stands_at p log st t ∙ onward_panel (started p) (frames log) ∙ q;
+          ap (λ given. unwrap_or given st.totals.panel) (accepted p log st t) ∙ stands_at p log st t ∙ onward_panel (started p) (frames log) ∙ q;
       whole = of_run p log h;
       parts = λ parts e. fed_run p parts ∙ ap (run_of p) e;
     }

@@ -1,5 +1,6 @@
 -- Any two allowed answers are equal: each public function of `account`, and what its contract ensures.
 use Rattle.std.specs.Prelude.{refl}
+use Rattle.std.proofs.Common.{sym, ◌∙◌}
 use seplogic.Ra.Ura.{Ura}
 use base.Logic.{SProp}
 use prog.Memory.{Memory}
@@ -14,7 +15,7 @@ use Rattle.account.specs.contracts.again.Again.is_quiet as again·quiet
 use Rattle.account.specs.contracts.placed.Placed.read as placed·read
 use Rattle.account.specs.contracts.placed.Placed.line as placed·line
 use Rattle.account.specs.contracts.placed.Placed.kept as placed·kept
-use Rattle.demands.specs.Unique.{DeterminesAnswer, equation}
+use Rattle.demands.specs.Unique.{Determines, DeterminesAnswer, equation}
 
 module _ {M : Type 1} {𝓤 : Ura M} (𝓛 : Logic 𝓤) (mem : Memory → SProp 𝓤) (run : Routine → Fun 𝓤) where
   -- account::account::Account::start: result ≡ account_start panel
@@ -29,11 +30,11 @@ module _ {M : Type 1} {𝓤 : Ura M} (𝓛 : Logic 𝓤) (mem : Memory → SProp
   pub account_unfinished : DeterminesAnswer 𝓤 account·unfinished.ended (account·unfinished.clauses 𝓛 mem run)
   account_unfinished = equation 𝓤 _ _ _ (λ κs a g r e. refl)
 
-  -- account::again::Again::after: result ≡ after_data self write
-  pub again_after : DeterminesAnswer 𝓤 again·after.ended (again·after.clauses 𝓛 mem run)
-  again_after = equation 𝓤 _ _ _ (λ κs a g r e. refl)
+  -- account::again::Again::after: self.new ≡ after_data self.old write
+  pub again_after : Determines 𝓤 again·after.ended (again·after.clauses 𝓛 mem run) (λ κs e. e.0.now)
+  again_after = record { Says = _; stated = λ κs a g r e. refl; one = λ κs a r s e f p q. (refl, p ∙ sym q) }
 
-  -- account::again::Again::is_quiet: result ≡ quiet_at self.stage (number_of answer) used
+  -- account::again::Again::is_quiet: result ≡ quiet_at self.now.stage (number_of answer) used
   pub again_quiet : DeterminesAnswer 𝓤 again·quiet.ended (again·quiet.clauses 𝓛 mem run)
   again_quiet = equation 𝓤 _ _ _ (λ κs a g r e. refl)
 

@@ -1,15 +1,14 @@
 -- Any two allowed answers are equal: each public function of `framing`, and what its contract ensures.
-use Rattle.std.specs.Prelude.{refl, length}
-use Rattle.std.proofs.Common.{sym, ap, ◌∙◌}
+use Rattle.std.specs.Prelude.{refl}
 use seplogic.Ra.Ura.{Ura}
 use base.Logic.{SProp}
 use prog.Memory.{Memory}
 use prog.Routine.{Routine}
 use types.Logic.{Logic}
 use contract.Monad.{Fun}
-use Rattle.framing.specs.contracts.carry.carried as carry·carried
 use Rattle.framing.specs.contracts.carry.Carry.empty as carry·empty
 use Rattle.framing.specs.contracts.carry.Carry.keep as carry·keep
+use Rattle.framing.specs.contracts.carry.Carry.bytes as carry·bytes
 use Rattle.framing.specs.contracts.carry.Carry.frame as carry·frame
 use Rattle.framing.specs.contracts.carry.Carry.flaw as carry·flaw
 use Rattle.framing.specs.contracts.carry.Carry.wants_more as carry·wants-more
@@ -22,13 +21,9 @@ use Rattle.framing.specs.contracts.front.wants_more as front·wants-more
 use Rattle.framing.specs.contracts.front.frame as front·frame
 use Rattle.framing.specs.contracts.front.flaw as front·flaw
 use Rattle.framing.specs.contracts.records.records as records·records
-use Rattle.demands.specs.Unique.{DeterminesAnswer, answer, equation}
+use Rattle.demands.specs.Unique.{DeterminesAnswer, DeterminesShown, equation, shown_equation}
 
 module _ {M : Type 1} {𝓤 : Ura M} (𝓛 : Logic 𝓤) (mem : Memory → SProp 𝓤) (run : Routine → Fun 𝓤) where
-  -- framing::carry::carried: Held room bytes len result
-  pub carried : DeterminesAnswer 𝓤 carry·carried.ended (carry·carried.clauses 𝓛 mem run)
-  carried = answer 𝓤 _ _ _ (λ κs a g r e. refl) (λ κs a r s e f p q. p.count ∙ ap length (p.is ∙ sym q.is) ∙ sym q.count)
-
   -- framing::carry::Carry::empty: result ≡ carry_of []
   pub carry_empty : DeterminesAnswer 𝓤 carry·empty.ended (carry·empty.clauses 𝓛 mem run)
   carry_empty = equation 𝓤 _ _ _ (λ κs a g r e. refl)
@@ -37,15 +32,19 @@ module _ {M : Type 1} {𝓤 : Ura M} (𝓛 : Logic 𝓤) (mem : Memory → SProp
   pub carry_keep : DeterminesAnswer 𝓤 carry·keep.ended (carry·keep.clauses 𝓛 mem run)
   carry_keep = equation 𝓤 _ _ _ (λ κs a g r e. refl)
 
-  -- framing::carry::Carry::frame: result ≡ frame_of (carried_of self)
+  -- framing::carry::Carry::bytes: result.now ≡ carried_of self.now
+  pub carry_bytes : DeterminesShown 𝓤 carry·bytes.ended (carry·bytes.clauses 𝓛 mem run) (λ κs r. r.now)
+  carry_bytes = shown_equation 𝓤 _ _ _ _ (λ κs a g r e. refl)
+
+  -- framing::carry::Carry::frame: result ≡ frame_of (carried_of self.now)
   pub carry_frame : DeterminesAnswer 𝓤 carry·frame.ended (carry·frame.clauses 𝓛 mem run)
   carry_frame = equation 𝓤 _ _ _ (λ κs a g r e. refl)
 
-  -- framing::carry::Carry::flaw: result ≡ flaw_of (carried_of self)
+  -- framing::carry::Carry::flaw: result ≡ flaw_of (carried_of self.now)
   pub carry_flaw : DeterminesAnswer 𝓤 carry·flaw.ended (carry·flaw.clauses 𝓛 mem run)
   carry_flaw = equation 𝓤 _ _ _ (λ κs a g r e. refl)
 
-  -- framing::carry::Carry::wants_more: result ≡ wants_more (carried_of self)
+  -- framing::carry::Carry::wants_more: result ≡ wants_more (carried_of self.now)
   pub carry_wants_more : DeterminesAnswer 𝓤 carry·wants-more.ended (carry·wants-more.clauses 𝓛 mem run)
   carry_wants_more = equation 𝓤 _ _ _ (λ κs a g r e. refl)
 

@@ -10,12 +10,13 @@ use contract.Monad.{Fun}
 use Rattle.mirror.specs.contracts.answer.Answer.number as answer·number
 use Rattle.mirror.specs.contracts.answer.Answer.clocked as answer·clocked
 use Rattle.mirror.specs.contracts.answer.Answer.place as answer·place
+use Rattle.mirror.specs.contracts.answer.Answer.name as answer·name
+use Rattle.mirror.specs.contracts.answer.Refusal.number as refusal·number
 use Rattle.mirror.specs.contracts.half.Half.fits as half·fits
 use Rattle.mirror.specs.contracts.panel.Panel.fresh as panel·fresh
 use Rattle.mirror.specs.contracts.panel.Panel.sound as panel·sound
 use Rattle.mirror.specs.contracts.panel.Panel.«record» as panel·record
 use Rattle.mirror.specs.contracts.panel.Panel.written as panel·written
-use Rattle.mirror.specs.contracts.written.PlacesWritten.refusal as places-written·refusal
 use Rattle.mirror.specs.contracts.stream.Stream.start as stream·start
 use Rattle.mirror.specs.contracts.stream.Stream.next as stream·next
 use Rattle.mirror.specs.contracts.stream.Stream.feed as stream·feed
@@ -32,12 +33,18 @@ use Rattle.mirror.specs.contracts.reading.Reading.answer as reading·answer
 use Rattle.mirror.specs.contracts.reading.Reading.eight as reading·eight
 use Rattle.mirror.specs.contracts.reading.Reading.half as reading·half
 use Rattle.mirror.specs.contracts.reading.Reading.last as reading·last
+use Rattle.mirror.specs.contracts.reading.Reading.next as reading·next
 use Rattle.mirror.specs.contracts.reading.Reading.number as reading·number
+use Rattle.mirror.specs.contracts.reading.Reading.of as reading·of
 use Rattle.mirror.specs.contracts.reading.Reading.used as reading·used
 use Rattle.mirror.specs.contracts.stream.Stream.ended as stream·ended
 use Rattle.mirror.specs.contracts.stream.Stream.gathered as stream·gathered
 use Rattle.mirror.specs.contracts.stream.Stream.read as stream·read
-use Rattle.demands.specs.Unique.{Determines, DeterminesAnswer, answer, equation}
+use Rattle.mirror.specs.laws.ReadLaws.{Left, steps_one}
+use Rattle.demands.specs.Unique.{Determines, DeterminesAnswer, DeterminesShown, answer, equation, shown_equation}
+use denote.RattleType.{RattleType}
+use mir.Syntax.{Dict}
+use Rattle.std.specs.declared.clone.Clone as Clone
 
 module _ {M : Type 1} {𝓤 : Ura M} (𝓛 : Logic 𝓤) (mem : Memory → SProp 𝓤) (run : Routine → Fun 𝓤) where
   -- mirror::answer::Answer::number: result ≡ number_of self
@@ -51,6 +58,14 @@ module _ {M : Type 1} {𝓤 : Ura M} (𝓛 : Logic 𝓤) (mem : Memory → SProp
   -- mirror::answer::Answer::place: result ≡ place_of (number_of self)
   pub answer_place : DeterminesAnswer 𝓤 answer·place.ended (answer·place.clauses 𝓛 mem run)
   answer_place = equation 𝓤 _ _ _ (λ κs a g r e. refl)
+
+  -- mirror::answer::Answer::name: result.now ≡ name_of self
+  pub answer_name : DeterminesShown 𝓤 answer·name.ended (answer·name.clauses 𝓛 mem run) (λ κs r. r.now)
+  answer_name = shown_equation 𝓤 _ _ _ _ (λ κs a g r e. refl)
+
+  -- mirror::answer::Refusal::number: result ≡ refusal_number self
+  pub refusal_number : DeterminesAnswer 𝓤 refusal·number.ended (refusal·number.clauses 𝓛 mem run)
+  refusal_number = equation 𝓤 _ _ _ (λ κs a g r e. refl)
 
   -- mirror::half::Half::fits: result ≡ half_fits eight self
   pub half_fits : DeterminesAnswer 𝓤 half·fits.ended (half·fits.clauses 𝓛 mem run)
@@ -71,10 +86,6 @@ module _ {M : Type 1} {𝓤 : Ura M} (𝓛 : Logic 𝓤) (mem : Memory → SProp
   -- mirror::panel::Panel::written: Tells self result
   pub panel_written : DeterminesAnswer 𝓤 panel·written.ended (panel·written.clauses 𝓛 mem run)
   panel_written = answer 𝓤 _ _ _ (λ κs a g r e. refl) (λ κs a r s e f p q. p.told ∙ sym q.told)
-
-  -- mirror::written::PlacesWritten::refusal: result ≡ written_refusal self
-  pub places_written_refusal : DeterminesAnswer 𝓤 places-written·refusal.ended (places-written·refusal.clauses 𝓛 mem run)
-  places_written_refusal = equation 𝓤 _ _ _ (λ κs a g r e. refl)
 
   -- mirror::stream::Stream::start: result ≡ start_of panel
   pub stream_start : DeterminesAnswer 𝓤 stream·start.ended (stream·start.clauses 𝓛 mem run)
@@ -104,11 +115,11 @@ module _ {M : Type 1} {𝓤 : Ura M} (𝓛 : Logic 𝓤) (mem : Memory → SProp
   pub tally : Determines 𝓤 count·tally.ended (count·tally.clauses 𝓛 mem run) (λ κs e. e.0.now)
   tally = record { Says = _; stated = λ κs a g r e. refl; one = λ κs a r s e f p q. (refl, p ∙ sym q) }
 
-  -- mirror::stream::Reply::refusal: result ≡ end_number self
-  pub reply_refusal : DeterminesAnswer 𝓤 reply·refusal.ended (reply·refusal.clauses 𝓛 mem run)
-  reply_refusal = equation 𝓤 _ _ _ (λ κs a g r e. refl)
+  -- mirror::stream::Reply::refusal: result ≡ end_refusal self
+  pub reply_refusal : (T : RattleType) (G : Clone.Ghosts T.Denot) (d : Dict) → DeterminesAnswer 𝓤 (reply·refusal.ended T G d) (reply·refusal.clauses T G d 𝓛 mem run)
+  reply_refusal T G d = equation 𝓤 _ _ _ (λ κs a g r e. refl)
 
-  -- mirror::stream::Run::refusal: result ≡ run_number self
+  -- mirror::stream::Run::refusal: result ≡ run_refusal self
   pub run_refusal : DeterminesAnswer 𝓤 run·refusal.ended (run·refusal.clauses 𝓛 mem run)
   run_refusal = equation 𝓤 _ _ _ (λ κs a g r e. refl)
 
@@ -124,6 +135,14 @@ module _ {M : Type 1} {𝓤 : Ura M} (𝓛 : Logic 𝓤) (mem : Memory → SProp
   pub stream_front : DeterminesAnswer 𝓤 stream·front.ended (stream·front.clauses 𝓛 mem run)
   stream_front = equation 𝓤 _ _ _ (λ κs a g r e. refl)
 
+  -- mirror::reading::Reading::of: result ≡ reading_of panel records
+  pub reading_of : DeterminesAnswer 𝓤 reading·of.ended (reading·of.clauses 𝓛 mem run)
+  reading_of = equation 𝓤 _ _ _ (λ κs a g r e. refl)
+
+  -- mirror::reading::Reading::next: Steps self.old log.now display.old pattern.old counts.old self.new display.new pattern.new counts.new
+  pub reading_next : Determines 𝓤 reading·next.ended (reading·next.clauses 𝓛 mem run) {L = Left} (λ κs e. (e.0.now, e.1.1.0.now, e.1.1.1.0.now, e.1.1.1.1.0.now))
+  reading_next = record { Says = _; stated = λ κs a g r e. refl; one = λ κs a r s e f p q. (refl, steps_one _ _ _ _ _ _ _ _ _ _ _ _ _ p q) }
+
   -- mirror::reading::Reading::answer: result ≡ answer_read self
   pub reading_answer : DeterminesAnswer 𝓤 reading·answer.ended (reading·answer.clauses 𝓛 mem run)
   reading_answer = equation 𝓤 _ _ _ (λ κs a g r e. refl)
@@ -132,7 +151,7 @@ module _ {M : Type 1} {𝓤 : Ura M} (𝓛 : Logic 𝓤) (mem : Memory → SProp
   pub reading_eight : DeterminesAnswer 𝓤 reading·eight.ended (reading·eight.clauses 𝓛 mem run)
   reading_eight = equation 𝓤 _ _ _ (λ κs a g r e. refl)
 
-  -- mirror::reading::Reading::half: result ≡ half_of self.live
+  -- mirror::reading::Reading::half: result ≡ half_read self
   pub reading_half : DeterminesAnswer 𝓤 reading·half.ended (reading·half.clauses 𝓛 mem run)
   reading_half = equation 𝓤 _ _ _ (λ κs a g r e. refl)
 

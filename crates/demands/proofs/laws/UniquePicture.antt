@@ -8,7 +8,6 @@ use prog.Routine.{Routine}
 use types.Logic.{Logic}
 use contract.Monad.{Fun}
 use Rattle.picture.specs.contracts.compare.compare as compare·compare
-use Rattle.picture.specs.contracts.compare.Compared.refusal as compare·refusal
 use Rattle.picture.specs.contracts.cursor.line as cursor·line
 use Rattle.picture.specs.contracts.cursor.position as cursor·position
 use Rattle.picture.specs.contracts.cursor.shown as cursor·shown
@@ -17,7 +16,6 @@ use Rattle.picture.specs.contracts.frame.frame_size as frame·size
 use Rattle.picture.specs.contracts.frame.lit_at as frame·lit
 use Rattle.picture.specs.contracts.mode.upright as mode·upright
 use Rattle.picture.specs.contracts.paint.paint as paint·paint
-use Rattle.picture.specs.contracts.paint.Painted.refusal as paint·refusal
 use Rattle.picture.specs.contracts.pattern.pattern as pattern·pattern
 use Rattle.picture.specs.contracts.pattern.patterns as pattern·patterns
 use Rattle.picture.specs.contracts.screen.code_at as screen·code
@@ -30,10 +28,6 @@ module _ {M : Type 1} {𝓤 : Ura M} (𝓛 : Logic 𝓤) (mem : Memory → SProp
   -- picture::compare::compare: Compares chip a.now b.now result
   pub compare : DeterminesAnswer 𝓤 compare·compare.ended (compare·compare.clauses 𝓛 mem run)
   compare = answer 𝓤 _ _ _ (λ κs a g r e. refl) (λ κs a r s e f p q. p.told ∙ sym q.told)
-
-  -- picture::compare::Compared::refusal: result ≡ compare_refusal self
-  pub compared_refusal : DeterminesAnswer 𝓤 compare·refusal.ended (compare·refusal.clauses 𝓛 mem run)
-  compared_refusal = equation 𝓤 _ _ _ (λ κs a g r e. refl)
 
   -- picture::cursor::line: result ≡ line_of chip address
   pub cursor_line : DeterminesAnswer 𝓤 cursor·line.ended (cursor·line.clauses 𝓛 mem run)
@@ -66,10 +60,6 @@ module _ {M : Type 1} {𝓤 : Ura M} (𝓛 : Logic 𝓤) (mem : Memory → SProp
   -- picture::paint::paint: Paints panel font.now dark frame.old result frame.new
   pub paint : Determines 𝓤 paint·paint.ended (paint·paint.clauses 𝓛 mem run) {L = List ℕ} (λ κs e. e.1.1.1.0.now)
   paint = record { Says = _; stated = λ κs a g r e. refl; one = λ κs a r s e f p q. (p.told ∙ sym q.told, p.left ∙ sym q.left) }
-
-  -- picture::paint::Painted::refusal: result ≡ paint_refusal self
-  pub painted_refusal : DeterminesAnswer 𝓤 paint·refusal.ended (paint·refusal.clauses 𝓛 mem run)
-  painted_refusal = equation 𝓤 _ _ _ (λ κs a g r e. refl)
 
   -- picture::pattern::pattern: result ≡ pattern_of memory number
   pub pattern : DeterminesAnswer 𝓤 pattern·pattern.ended (pattern·pattern.clauses 𝓛 mem run)

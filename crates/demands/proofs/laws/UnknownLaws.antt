@@ -1,12 +1,11 @@
 -- A panel of an unknown chip, and one whose bits disagree with its memory, are not sound, and so refused by every call.
-use Rattle.std.specs.Prelude.{ℕ, ◌≡◌, refl, Bool, true, false, not, List}
-use Rattle.std.proofs.Common.{sym, ◌∙◌}
+use Rattle.std.specs.Prelude.{ℕ, ◌≡◌, refl, Bool, true, false, List}
+use Rattle.std.proofs.Common.{sym}
 use Rattle.std.proofs.Math.Path.{ap}
-use Rattle.laws.specs.Pick.{pick}
 use Rattle.chip.specs.Sizes.{is_known}
 use Rattle.mirror.specs.Answer.{paper}
-use Rattle.mirror.specs.Panel.{sound_panel, half_fits}
-use Rattle.mirror.specs.Stream.{start_as, run_as, run_of}
+use Rattle.mirror.specs.Panel.{sound_panel}
+use Rattle.mirror.specs.Stream.{is_refused, start_as, run_as, run_of}
 use Rattle.mirror.specs.Promise.{summed}
 use Rattle.mirror.specs.laws.TableLaws.{refused_unsound}
 use Rattle.mirror.specs.laws.StreamLaws.{feed_run}
@@ -15,8 +14,6 @@ use Rattle.mirror.specs.laws.WrittenLaws.{written_places}
 use Rattle.mirror.specs.declared.panel.Panel.{Panel}
 use Rattle.mirror.specs.declared.record.Recorded.{Recorded}
 use Rattle.mirror.specs.declared.stream.Run.{Run}
-use Rattle.mirror.specs.declared.stream.Stream.{Stream}
-use Rattle.picture.specs.Paint.{paint_paper}
 use Rattle.demands.specs.Unknown.{RefusedCalls, UnknownRefused, DisagreeingRefused}
 
 -- a panel that is not sound is refused by every call but the comparison, which is told a chip alone
@@ -40,7 +37,7 @@ unsound_refused p e =
       runs = λ log. ap summed (refused_run p e log);
       left = λ log. ap (λ (r : Run). r.panel) (refused_run p e log);
       fed = feed_run p;
-      nexts = λ part. sym (next_refused (start_as (sound_panel p) p) part (ap (λ (st : Stream). st.refused) (refused_start p e)));
+      nexts = λ part. sym (next_refused (start_as (sound_panel p) p) part (ap is_refused (refused_start p e)));
       paints = λ font dark frame. rw e;
       frames = λ font dark frame. rw e;
       places = rw e;

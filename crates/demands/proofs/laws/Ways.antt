@@ -16,7 +16,7 @@ use Rattle.mirror.specs.declared.half.Half.{Half}
 use Rattle.mirror.specs.declared.half.Half.TheVariants.{Empty, Ignored, Waiting}
 use Rattle.mirror.specs.declared.panel.Panel.{Panel}
 use Rattle.mirror.specs.declared.record.Recorded.{Recorded}
-use Rattle.demands.specs.Replay.{Entry, instruct, write, read, reset, carried, entry_of, Something}
+use Rattle.demands.specs.Replay.{Entry, instruct, write, read, carried, entry_of, Something}
 
 -- the answers to what is carried out
 pub data Acts : Answer → Type 0 where
@@ -85,13 +85,13 @@ whole_goes p time true true bus h true n = acts (read_as (is_good p)) (read_acts
 whole_goes p time true true bus h false n = drops say.Ignored 0 ignored
 whole_goes p time false true bus h z n = drops say.Status (status_of time p) status
 
-first_goes : (p : Panel) (time : ℕ) (rs reads : Bool) (bus byte : ℕ) (z : Bool) →
-    Goes p time rs reads bus false Empty (went (first_of z rs reads) time rs reads bus byte p)
-first_goes p time rs false bus byte true = begins (bus / 16) 0 refl refl (λ e. refl)
-first_goes p time rs false bus byte false = misses refl refl
-first_goes p time true true bus byte true = begins (read_byte p % 16) (high (read_byte p)) refl refl (λ e. absurd (true≢false e))
-first_goes p time true true bus byte false = misses refl refl
-first_goes p time false true bus byte z = begins (status_of time p % 16) (high (status_of time p)) refl refl (λ e. absurd (true≢false e))
+first_goes : (p : Panel) (time : ℕ) (rs reads : Bool) (bus given : ℕ) (z : Bool) →
+    Goes p time rs reads bus false Empty (went (first_of z rs reads) time rs reads bus given p)
+first_goes p time rs false bus given true = begins (bus / 16) 0 refl refl (λ e. refl)
+first_goes p time rs false bus given false = misses refl refl
+first_goes p time true true bus given true = begins (read_byte p % 16) (high (read_byte p)) refl refl (λ e. absurd (true≢false e))
+first_goes p time true true bus given false = misses refl refl
+first_goes p time false true bus given z = begins (status_of time p % 16) (high (status_of time p)) refl refl (λ e. absurd (true≢false e))
 
 second_goes : (p : Panel) (time : ℕ) (rs reads : Bool) (bus : ℕ) (r w : Bool) (nibble : ℕ) → w ≡ reads →
     let byte = joined_of false (Waiting r w nibble) bus in

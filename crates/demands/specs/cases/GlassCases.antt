@@ -1,19 +1,16 @@
 -- THE TABLE OF PICTURES (document 01, "The picture"; of two lines, document 02, wish 1): whole frames, the places of codes and of the cursor, comparisons. The frames were worked out from the
 -- paper by a short program apart from these definitions, which goes over all dots and tells of each whether it is lit.
-use Rattle.std.specs.Prelude.{ℕ, zero, suc, ◌+◌, ◌-◌, ◌*◌, ◌%◌, refl, Bool, true, false, List, [], ◌∷◌, ◌++◌, replicate}
+use Rattle.std.specs.Prelude.{ℕ, zero, suc, ◌+◌, ◌-◌, ◌*◌, ◌%◌, refl, Bool, true, false, List, [], ◌∷◌, ◌++◌, replicate, None, Ok, Err}
 use Rattle.laws.specs.Bit.{pack}
 use Rattle.dots.specs.First.{first, first_dot}
 use Rattle.dots.specs.Landing.{dots_frame, count_of}
 use Rattle.dots.specs.Table.{table, sum}
 use Rattle.chip.specs.declared.address.Address.{Address}
-use Rattle.picture.specs.Compare.{compared_of}
+use Rattle.picture.specs.Compare.{Compared, compared_of, differs_at}
 use Rattle.picture.specs.Cursor.{line_of, position_of}
-use Rattle.picture.specs.Paint.{frame_after, painted_of}
+use Rattle.picture.specs.Paint.{Painted, frame_after, painted_of}
 use Rattle.picture.specs.Picture.{code_at, lit}
-use Rattle.picture.specs.declared.compare.Compared.{Compared}
-use Rattle.picture.specs.declared.compare.Compared.TheVariants.{At, Same, Size, Unknown}
-use Rattle.picture.specs.declared.paint.Painted.{Painted}
-use Rattle.picture.specs.declared.paint.Painted.TheVariants as painting
+use Rattle.mirror.specs.declared.answer.Refusal.TheVariants.{Size, Unsound}
 use Rattle.mirror.specs.declared.half.Half.TheVariants.{Empty}
 use Rattle.mirror.specs.declared.panel.Panel.{Panel}
 use Rattle.demands.specs.cases.RowCases.{Hold, recording, shows, draws, regs, regs_of, codes, dots, with, panel_with, panel_on}
@@ -93,11 +90,11 @@ bright =
 
 abbrev pictures : List (Painting × (Painted × List ℕ))
 pictures =
-    ((glass (shows 9) 6 1 1 0, font, true, old), (painting.Lit 311, underline))
-    ∷ ((glass (draws 22) 11 1 0 1, font, true, old), (painting.Lit 332, block))
-    ∷ ((glass (draws 22) 11 1 1 1, font, false, old), (painting.Lit 310, bright))
+    ((glass (shows 9) 6 1 1 0, font, true, old), (Ok 311, underline))
+    ∷ ((glass (draws 22) 11 1 0 1, font, true, old), (Ok 332, block))
+    ∷ ((glass (draws 22) 11 1 1 1, font, false, old), (Ok 310, bright))
     -- D = 0: no dot is lit
-    ∷ ((glass (shows 9) 6 0 1 1, font, true, old), (painting.Lit 0, replicate 80 0))
+    ∷ ((glass (shows 9) 6 0 1 1, font, true, old), (Ok 0, replicate 80 0))
     ∷ []
 
 pub pictures_computed : Hold painted pictures
@@ -128,26 +125,26 @@ column (suc n) at a b = none at ++ (a ∷ b ∷ none (8 - at)) ++ column n at a 
 abbrev pictures_on_two : List (Painting × (Painted × List ℕ))
 pictures_on_two =
     -- pattern address 13h: the cursor on line 1 at position 3, in row 15; as address 13h of display memory; and address 03h on line 0, in row 7
-    ((pane (draws 0x13) 0 1 1 0 (replicate 32 0x20), blank_font, true, replicate 160 0xa5), (painting.Lit 5, none 151 ++ (0x01 ∷ 0xf0 ∷ none 7)))
-    ∷ ((pane (shows 0x13) 0 1 1 0 (replicate 32 0x20), blank_font, true, replicate 160 0xa5), (painting.Lit 5, none 151 ++ (0x01 ∷ 0xf0 ∷ none 7)))
-    ∷ ((pane (shows 0x03) 0 1 1 0 (replicate 32 0x20), blank_font, true, replicate 160 0xa5), (painting.Lit 5, none 71 ++ (0x01 ∷ 0xf0 ∷ none 87)))
+    ((pane (draws 0x13) 0 1 1 0 (replicate 32 0x20), blank_font, true, replicate 160 0xa5), (Ok 5, none 151 ++ (0x01 ∷ 0xf0 ∷ none 7)))
+    ∷ ((pane (shows 0x13) 0 1 1 0 (replicate 32 0x20), blank_font, true, replicate 160 0xa5), (Ok 5, none 151 ++ (0x01 ∷ 0xf0 ∷ none 7)))
+    ∷ ((pane (shows 0x03) 0 1 1 0 (replicate 32 0x20), blank_font, true, replicate 160 0xa5), (Ok 5, none 71 ++ (0x01 ∷ 0xf0 ∷ none 87)))
     -- the blink at address 15h, shift 2: line 1, position 3, in its eight rows alone
-    ∷ ((pane (shows 0x15) 2 1 0 1 (replicate 32 0x20), blank_font, true, replicate 160 0xa5), (painting.Lit 40, none 80 ++ column 8 1 0x01 0xf0))
+    ∷ ((pane (shows 0x15) 2 1 0 1 (replicate 32 0x20), blank_font, true, replicate 160 0xa5), (Ok 40, none 80 ++ column 8 1 0x01 0xf0))
     -- pattern 1 at place 10h, whose rows are 31, 10, 21, 0, 11, 22, 1 and 12: with a shift of 1 on line 1 at position 15, columns 75 to 79
     ∷ (
       (pane (shows 0) 1 1 0 0 (with 16 0x01 (replicate 32 0x20)), blank_font, true, replicate 160 0xa5),
-      (painting.Lit 19, none 89 ++ (0x1f ∷ none 9) ++ (0x0a ∷ none 9) ++ (0x15 ∷ none 9) ++ (0x00 ∷ none 9) ++ (0x0b ∷ none 9) ++ (0x16 ∷ none 9) ++ (0x01 ∷ none 9) ++ (0x0c ∷ [])),
+      (Ok 19, none 89 ++ (0x1f ∷ none 9) ++ (0x0a ∷ none 9) ++ (0x15 ∷ none 9) ++ (0x00 ∷ none 9) ++ (0x0b ∷ none 9) ++ (0x16 ∷ none 9) ++ (0x01 ∷ none 9) ++ (0x0c ∷ [])),
     )
     -- and at place 00h with the same shift on line 0 at position 15
     ∷ (
       (pane (shows 0) 1 1 0 0 (with 0 0x01 (replicate 32 0x20)), blank_font, true, replicate 160 0xa5),
-      (painting.Lit 19, none 9 ++ (0x1f ∷ none 9) ++ (0x0a ∷ none 9) ++ (0x15 ∷ none 9) ++ (0x00 ∷ none 9) ++ (0x0b ∷ none 9) ++ (0x16 ∷ none 9) ++ (0x01 ∷ none 9) ++ (0x0c ∷ none 80)),
+      (Ok 19, none 9 ++ (0x1f ∷ none 9) ++ (0x0a ∷ none 9) ++ (0x15 ∷ none 9) ++ (0x00 ∷ none 9) ++ (0x0b ∷ none 9) ++ (0x16 ∷ none 9) ++ (0x01 ∷ none 9) ++ (0x0c ∷ none 80)),
     )
     -- a frame of the other chip's size
-    ∷ ((pane (shows 0) 1 1 0 0 (replicate 32 0x20), blank_font, true, replicate 80 0xa5), (painting.Size, replicate 80 0xa5))
-    ∷ ((glass (shows 9) 6 1 1 0, font, true, replicate 160 0xa5), (painting.Size, replicate 160 0xa5))
+    ∷ ((pane (shows 0) 1 1 0 0 (replicate 32 0x20), blank_font, true, replicate 80 0xa5), (Err Size, replicate 80 0xa5))
+    ∷ ((glass (shows 9) 6 1 1 0, font, true, replicate 160 0xa5), (Err Size, replicate 160 0xa5))
     -- a chip that is not known: not sound, before any size
-    ∷ ((panel_with (regs_of 6 (regs (shows 9) 6 0 1 1 1 0 8 15)) edges dots 900 Empty 800, font, true, replicate 160 0xa5), (painting.Unsound, replicate 160 0xa5))
+    ∷ ((panel_with (regs_of 6 (regs (shows 9) 6 0 1 1 1 0 8 15)) edges dots 900 Empty 800, font, true, replicate 160 0xa5), (Err Unsound, replicate 160 0xa5))
     ∷ []
 
 pub pictures_on_two_computed : Hold painted pictures_on_two
@@ -160,15 +157,15 @@ refused given glyphs frame answer = ((given, glyphs, true, frame), (answer, fram
 
 abbrev refusals : List (Painting × (Painted × List ℕ))
 refusals =
-    refused (glass (shows 9) 6 1 1 0) font (replicate 79 0xa5) painting.Size
-    ∷ refused (glass (shows 9) 6 1 1 0) font (replicate 81 0xa5) painting.Size
-    ∷ refused (glass (shows 9) 6 1 1 0) font [] painting.Size
-    ∷ refused (glass (shows 9) 6 1 1 0) (glyphs 1_919 0) old painting.Size
-    ∷ refused (glass (shows 9) 6 1 1 0) (glyphs 1_921 0) old painting.Size
-    ∷ refused (glass (shows 9) 6 0 1 0) [] old painting.Size
-    ∷ refused (glass (shows 9) 16 1 1 0) font old painting.Unsound
-    ∷ refused (glass (shows 9) 16 1 1 0) font (replicate 79 0xa5) painting.Unsound
-    ∷ refused (glass (shows 9) 16 1 1 0) [] old painting.Unsound
+    refused (glass (shows 9) 6 1 1 0) font (replicate 79 0xa5) (Err Size)
+    ∷ refused (glass (shows 9) 6 1 1 0) font (replicate 81 0xa5) (Err Size)
+    ∷ refused (glass (shows 9) 6 1 1 0) font [] (Err Size)
+    ∷ refused (glass (shows 9) 6 1 1 0) (glyphs 1_919 0) old (Err Size)
+    ∷ refused (glass (shows 9) 6 1 1 0) (glyphs 1_921 0) old (Err Size)
+    ∷ refused (glass (shows 9) 6 0 1 0) [] old (Err Size)
+    ∷ refused (glass (shows 9) 16 1 1 0) font old (Err Unsound)
+    ∷ refused (glass (shows 9) 16 1 1 0) font (replicate 79 0xa5) (Err Unsound)
+    ∷ refused (glass (shows 9) 16 1 1 0) [] old (Err Unsound)
     ∷ []
 
 pub refusals_computed : Hold painted refusals
@@ -265,23 +262,23 @@ dark = replicate 80 0
 
 abbrev comparisons : List ((List ℕ × List ℕ) × Compared)
 comparisons =
-    ((dark, dark), Same)
-    ∷ ((old, old), Same)
-    ∷ ((dark, with 9 0x01 (with 10 0x80 dark)), At 0 79)
-    ∷ ((with 9 0x01 (with 10 0x80 dark), dark), At 0 79)
-    ∷ ((with 10 0x80 dark, dark), At 1 0)
-    ∷ ((dark, with 34 0x14 dark), At 3 35)
-    ∷ ((dark, with 34 0x04 (with 40 0xff dark)), At 3 37)
-    ∷ ((with 5 0xa4 old, old), At 0 47)
-    ∷ ((dark, with 0 0x80 dark), At 0 0)
-    ∷ ((dark, with 79 0x01 dark), At 7 79)
+    ((dark, dark), Ok None)
+    ∷ ((old, old), Ok None)
+    ∷ ((dark, with 9 0x01 (with 10 0x80 dark)), differs_at 0 79)
+    ∷ ((with 9 0x01 (with 10 0x80 dark), dark), differs_at 0 79)
+    ∷ ((with 10 0x80 dark, dark), differs_at 1 0)
+    ∷ ((dark, with 34 0x14 dark), differs_at 3 35)
+    ∷ ((dark, with 34 0x04 (with 40 0xff dark)), differs_at 3 37)
+    ∷ ((with 5 0xa4 old, old), differs_at 0 47)
+    ∷ ((dark, with 0 0x80 dark), differs_at 0 0)
+    ∷ ((dark, with 79 0x01 dark), differs_at 7 79)
     -- a frame not of 80 bytes
-    ∷ ((replicate 79 0, dark), Size)
-    ∷ ((dark, replicate 79 0), Size)
-    ∷ ((replicate 81 0, dark), Size)
-    ∷ ((dark, replicate 81 0), Size)
-    ∷ ((replicate 79 0, replicate 79 0), Size)
-    ∷ (([], []), Size)
+    ∷ ((replicate 79 0, dark), Err Size)
+    ∷ ((dark, replicate 79 0), Err Size)
+    ∷ ((replicate 81 0, dark), Err Size)
+    ∷ ((dark, replicate 81 0), Err Size)
+    ∷ ((replicate 79 0, replicate 79 0), Err Size)
+    ∷ (([], []), Err Size)
     ∷ []
 
 pub comparisons_computed : Hold compared comparisons
@@ -294,15 +291,15 @@ told p = compared_of p.0 p.1 p.2
 
 abbrev tellings : List ((ℕ × List ℕ × List ℕ) × Compared)
 tellings =
-    ((35, replicate 160 0, replicate 160 0), Same)
-    ∷ ((35, replicate 160 0, with 159 0x01 (replicate 160 0)), At 15 79)
-    ∷ ((35, with 80 0x80 (replicate 160 0), with 159 0x01 (replicate 160 0)), At 8 0)
-    ∷ ((35, dark, dark), Size)
-    ∷ ((35, dark, replicate 160 0), Size)
-    ∷ ((35, replicate 160 0, dark), Size)
-    ∷ ((31, replicate 160 0, replicate 160 0), Size)
-    ∷ ((6, dark, dark), Unknown)
-    ∷ ((6, [], dark), Unknown)
+    ((35, replicate 160 0, replicate 160 0), Ok None)
+    ∷ ((35, replicate 160 0, with 159 0x01 (replicate 160 0)), differs_at 15 79)
+    ∷ ((35, with 80 0x80 (replicate 160 0), with 159 0x01 (replicate 160 0)), differs_at 8 0)
+    ∷ ((35, dark, dark), Err Size)
+    ∷ ((35, dark, replicate 160 0), Err Size)
+    ∷ ((35, replicate 160 0, dark), Err Size)
+    ∷ ((31, replicate 160 0, replicate 160 0), Err Size)
+    ∷ ((6, dark, dark), Err Unsound)
+    ∷ ((6, [], dark), Err Unsound)
     ∷ []
 
 pub tellings_computed : Hold told tellings

@@ -5,7 +5,6 @@ use Rattle.std.proofs.lemmas.Bool.{false≢true}
 use Rattle.laws.specs.Bit.{pack}
 use Rattle.framing.specs.Frame.{num16, num64, cut_at, bad_at, frame_of}
 use Rattle.framing.specs.Frames.{pieces_from}
-use Rattle.chip.specs.Sound.{faultless}
 use Rattle.mirror.specs.Panel.{fresh_panel}
 use Rattle.mirror.specs.Answers.{ByteLog, Typed, Proper}
 use Rattle.mirror.specs.laws.TypedLaws.{typed_proper}
@@ -16,7 +15,7 @@ use Rattle.mirror.specs.declared.panel.Panel.{Panel}
 
 -- what computes when a log is answered
 unfoldable pub answering : ℕ
-unfolding num16 num64 cut_at bad_at frame_of pieces_from faultless row_for record_of tallied onward run_of pack
+unfolding num16 num64 cut_at bad_at frame_of pieces_from row_for record_of tallied onward run_of pack
 answering = 0
 
 -- a time below 65,536

@@ -1,5 +1,5 @@
 -- Mirrored glass, worked out by hand from the wish: with 20h blank in the font, on one line and on two.
-use Rattle.std.specs.Prelude.{ℕ, ◌≡◌, refl, true, false, List, [], ◌∷◌, ◌++◌, replicate}
+use Rattle.std.specs.Prelude.{ℕ, ◌≡◌, refl, false, List, [], ◌∷◌, ◌++◌, replicate}
 use Rattle.laws.specs.Bit.{pack}
 use Rattle.dots.specs.Table.{table, sum}
 use Rattle.dots.specs.Landing.{dots_frame, count_of}

@@ -5,7 +5,7 @@ use Rattle.mirror.specs.declared.half.Half.{Half}
 use Rattle.mirror.specs.declared.half.Half.TheVariants.{Empty}
 use Rattle.mirror.specs.declared.panel.Panel.{Panel}
 use Rattle.chip.specs.declared.address.Address.{Address}
-use Rattle.demands.specs.cases.RowCases.{Hold, recording, shows, draws, regs, regs_of, down, up, codes, memory_of, dots, with, panel_with, panel, panel_on, doubted, held, missed, afresh_of, afresh}
+use Rattle.demands.specs.cases.RowCases.{Hold, recording, shows, draws, regs, down, up, codes, memory_of, dots, with, panel_with, panel, panel_on, doubted, held, missed, afresh_of, afresh}
 
 -- a display memory of one line; an address on two lines
 abbrev stored : List ℕ → Panel

@@ -1,7 +1,7 @@
 -- THE TABLE OF WRITTEN PLACES (document 02, wish 3): the bits after a log, from a fresh panel of the times 10,000 / 1,640 / 40, and what the call then answers;
 -- bit a, of weight 2^a, is 1 exactly when the byte at display address a isn't 20h. Where nothing else is said, records come 40 apart from 0.
-use Rattle.std.specs.Prelude.{ℕ, zero, suc, ◌+◌, ◌-◌, ◌*◌, ◌/◌, ◌%◌, ◌^◌, refl, Bool, true, false, List, [], ◌∷◌, ◌++◌, map, eqb, replicate}
-use Rattle.std.proofs.Math.Option.{Option, none, some}
+use Rattle.std.specs.Prelude.{ℕ, zero, suc, ◌+◌, ◌-◌, ◌/◌, ◌%◌, ◌^◌, refl, Bool, true, false, List, [], ◌∷◌, ◌++◌, map, eqb, replicate}
+use Rattle.std.proofs.Math.Option.{none, some}
 use Rattle.laws.specs.Pick.{pick}
 use Rattle.mirror.specs.Panel.{sound_panel}
 use Rattle.mirror.specs.Stream.{run_of}

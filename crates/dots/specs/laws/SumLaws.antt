@@ -1,9 +1,10 @@
 -- Laws of `sum`.
 use Prim.Native.Nat.{ℕ, zero, suc, ◌+◌, ◌*◌, ◌/◌, ◌%◌, ◌<◌}
-use Rattle.std.specs.Prelude.{◌≡◌, refl, eqb}
+use Rattle.std.specs.Prelude.{◌≡◌, refl, eqb, List, [], ◌∷◌, length, get_or, sum_by}
 use Rattle.std.proofs.Common.{sym, ap₂, ◌∙◌, add-zero, add-suc, suc-mul, zero-mul, not-suc-le-zero, add-one, arith, eq-eqb, ne_eqb}
 use Rattle.std.proofs.Math.Path.{ap}
 use Rattle.std.proofs.Math.Decide.{ℕ_discrete}
+use Rattle.std.proofs.lemmas.List.Sums.{sum_by-cons}
 use Rattle.laws.specs.Pick.{pick}
 use Rattle.dots.specs.Table.{sum}
 use Rattle.dots.specs.laws.PartsLaws.{part_back, place_back}
@@ -95,3 +96,9 @@ module _ (m : ℕ) (to : ℕ → ℕ) where
           at : (k : ℕ) → k < suc n → to k ≡ j → Dec (k ≡ n) → ⊥
           at k q e (yes z) = d (sym e ∙ ap to z)
           at k q e (no z) = none k (omega arith) e
+
+-- the values of a list's elements, added up
+pub sum_list : (f : ℕ → ℕ) (l : List ℕ) → sum_by f l ≡ sum (λ i. f (get_or l i 0)) (length l)
+unfolding sum
+sum_list f [] = refl
+sum_list f (x ∷ l) = sum_by-cons f x l ∙ ap (λ (n : ℕ). f x + n) (sum_list f l) ∙ sym (sum_first (λ i. f (get_or (x ∷ l) i 0)) (length l))

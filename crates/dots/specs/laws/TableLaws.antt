@@ -1,7 +1,9 @@
 -- Laws of `table` and `in_order`.
-use Rattle.std.specs.Prelude.{ℕ, zero, suc, ◌+◌, ◌≤◌, ◌<◌, ◌≡◌, refl, List, ◌∷◌, length, get_or, set, replicate}
-use Rattle.std.proofs.Common.{sym, ap, ap₂, ◌∙◌, not-suc-le-zero, le_of_suc-le-suc, add-one, arith, length-set, get_or-set_same, get_or-set_other, ext_get_or}
+use Rattle.std.specs.Prelude.{ℕ, zero, suc, ◌+◌, ◌≤◌, ◌<◌, ◌≡◌, refl, List, ◌∷◌, length, get_or, replicate}
+use Rattle.std.proofs.Common.{sym, ap, ap₂, subst, ◌∙◌, not-suc-le-zero, le_of_suc-le-suc, add-one, arith, ext_get_or}
 use Rattle.std.proofs.Math.Decide.{ℕ_discrete}
+use Rattle.std.specs.Array.{IsFromFnResultFrom, IsFromFnResult}
+use denote.Param.Members.{Mut, Called}
 use Rattle.dots.specs.Table.{table}
 use Rattle.dots.specs.engine.Cells.{in_order}
 
@@ -30,30 +32,26 @@ unfolding table
 table_const a zero = refl
 table_const a (suc n) = ap (λ (t : List ℕ). a ∷ t) (table_const a n)
 
--- a loop that fills a list from the front: of n places, those before i hold h
-pub record Filled (h : ℕ → ℕ) (n : ℕ) (l : List ℕ) (i : ℕ) : Type 0 where
-  pub within : i ≤ n
-  pub long : length l ≡ n
-  pub at : (k : ℕ) → k < i → get_or l k 0 ≡ h k
+pub is_table : {A : Type 0} (h : ℕ → A) (n : ℕ) (l : List A) (d : A) → length l ≡ n → ((i : ℕ) → i < n → get_or l i d ≡ h i) → l ≡ table h n
+is_table h n l d long at =
+    ext_get_or d l (table h n) (long ∙ sym (length_table h n))
+    (λ k q. at k (omega (arith, long)) ∙ sym (get_d_table h n k d (omega (arith, long))))
 
-pub fill_start : (h : ℕ → ℕ) (n : ℕ) (l : List ℕ) → length l ≡ n → Filled h n l 0
-fill_start h n l e = record { within = omega arith; long = e; at = (λ k p. absurd (not-suc-le-zero p)) }
+-- an array that `from_fn` makes, by a closure f that answers h and stays as it is
+module _ {F A : Type 0} (g : Mut F (ℕ × Unit {0}) A) (h : ℕ → A) (f : F) (l : List A) (d : A) where
+  made_from : (i n : ℕ) → ((k : ℕ) (y : A) (q : F) → k < i + n → Called g f (k, tt) y q → (q ≡ f) × (y ≡ h k))
+      → IsFromFnResultFrom g f l i n → (k : ℕ) → i ≤ k → k < i + n → get_or l k d ≡ h k
+  made_from i zero e r k p q = absurd (omega arith)
+  made_from i (suc n) e (to, y, at, called, rest) k p q =
+      let made : (to ≡ f) × (y ≡ h i) = e i y to (omega arith) called in
+      elim (ℕ_discrete k i) [
+        | yes same ↦ ap (λ (j : ℕ). get_or l j d) same ∙ at.1 d ∙ made.1 ∙ ap h (sym same)
+        | no other ↦ made_from (i + 1) n (λ j z u b. e j z u (omega arith)) (subst (λ (t : F). IsFromFnResultFrom g t l (i + 1) n) made.0 rest) k (omega arith) (omega arith)
+      ]
 
-pub fill_step : (h : ℕ → ℕ) (n : ℕ) (l : List ℕ) (i a : ℕ) → Filled h n l i → i < n → a ≡ h i → Filled h n (set l i a) (i + 1)
-fill_step h n l i a F p e = record {
-  within = omega arith;
-  long = length-set l i a ∙ F.long;
-  at = (λ k q. go k q (ℕ_discrete k i));
-}
-  where
-    go : (k : ℕ) → k < i + 1 → Dec (k ≡ i) → get_or (set l i a) k 0 ≡ h k
-    go k q (yes d) = ap (λ (j : ℕ). get_or (set l i a) j 0) d ∙ get_or-set_same l i a 0 (omega (arith, F.long)) ∙ e ∙ ap h (sym d)
-    go k q (no d) = get_or-set_other l i k a 0 d ∙ F.at k (omega arith)
-
-pub fill_end : (h : ℕ → ℕ) (n : ℕ) (l : List ℕ) (i : ℕ) → Filled h n l i → n ≤ i → l ≡ table h n
-fill_end h n l i F p =
-    ext_get_or 0 l (table h n) (F.long ∙ sym (length_table h n))
-    (λ k q. F.at k (omega (arith, F.long)) ∙ sym (get_d_table h n k 0 (omega (arith, F.long))))
+  pub made_table : (n : ℕ) → IsFromFnResult g f l n → ((k : ℕ) (y : A) (q : F) → k < n → Called g f (k, tt) y q → (q ≡ f) × (y ≡ h k)) → l ≡ table h n
+  made_table n r e =
+      is_table h n l d r.long (λ i p. made_from 0 n (λ k y q h. e k y q (omega arith)) r.each i (omega arith) (omega arith))
 
 pub in_order_none : {A : Type 0} (step : ℕ → A → A) (a : A) → in_order step 0 a ≡ a
 unfolding in_order

@@ -1,10 +1,11 @@
 -- Laws of the carried bytes: that filling a carry and reading it is reading on.
-use Rattle.std.specs.Prelude.{ℕ, zero, suc, ◌+◌, ◌-◌, ◌<◌, ◌≤◌, min, ◌≡◌, refl, Bool, true, false, ◌||◌, List, [], ◌∷◌, ◌++◌, length, take, drop, replicate, leb, eqb}
-use Rattle.std.proofs.Common.{arith, zero-add, sym, ap, ◌∙◌, append_assoc, length-append, length-take, take_all, leb-true, leb-false, le-ltb, ne_eqb}
-use Rattle.std.proofs.Math.Nat.{zero-sub, sub-zero, suc-sub-suc}
-use Rattle.std.proofs.Math.Seq.{take-append_seam, drop-append-add, paste}
+use Rattle.std.specs.Prelude.{ℕ, zero, suc, ◌+◌, ◌-◌, ◌<◌, ◌≤◌, min, ◌≡◌, refl, Bool, true, false, ◌||◌, Some, None, List, [], ◌∷◌, ◌++◌, length, take, drop, leb}
+use Rattle.std.specs.Option.{unwrap_or}
+use Rattle.std.proofs.Common.{arith, sym, ap, ◌∙◌, append_assoc, length-append, length-take, take_all, leb-true, leb-false, le-ltb}
+use Rattle.std.proofs.lemmas.List.{take_min}
 use Rattle.laws.specs.Pick.{pick}
-use Rattle.framing.specs.declared.carry.Carry.{Carry}
+use Rattle.buffer.specs.Buffer.{buffer_of}
+use Rattle.buffer.specs.laws.BufferLaws.{held}
 use Rattle.framing.specs.Frame.{length_of, record_size, no_length, outside_length, cut_at, wants_more, frame_of, told_size}
 use Rattle.framing.specs.laws.CutLaws.{broken, none_want, wants_few, Wants, length_first, then_body, wants, inside, broken_append, cut_either, broken_cut}
 use Rattle.framing.specs.Frames.{then, pieces}
@@ -20,72 +21,39 @@ left carried part = drop (length (more carried part)) part
 
 -- a carry holds what it was made of
 pub carried : (s : List ℕ) → carried_of (carry_of s) ≡ s
-unfolding carry_of
-carried s = take-append_seam s (replicate (room - length s) 0)
+carried s = held room s
 
 -- what wants more is carried whole
 pub keep_wants : (s : List ℕ) → wants_more s ≡ true → carried_of (carry_of (take room s)) ≡ s
 keep_wants s w = carried (take room s) ∙ take_all room s (omega (arith, wants_few s w))
 
--- a carry whose bytes are pasted after what it holds
-take_least : (k : ℕ) (p : List ℕ) → take (min k (length p)) p ≡ take k p
-take_least k p = by (leb k (length p)) refl where
-  by : (b : Bool) → leb k (length p) ≡ b → take (min k (length p)) p ≡ take k p
-  by true e = let m : min k (length p) ≡ k = omega (arith, leb-true k (length p) e) in rw m
-  by false e =
-      let h = leb-false k (length p) e in
-      take_all (min k (length p)) p (omega arith) ∙ sym (take_all k p (omega arith))
-
-drop_replicate : (k n : ℕ) → drop k (replicate n 0) ≡ replicate {A = ℕ} (n - k) 0
-drop_replicate zero n = ap (λ (m : ℕ). replicate m 0) (sym (sub-zero n))
-drop_replicate (suc k) zero = ap (λ (m : ℕ). replicate m 0) (sym (zero-sub (suc k)))
-drop_replicate (suc k) (suc n) = drop_replicate k n ∙ ap (λ (m : ℕ). replicate m 0) (sym (suc-sub-suc n k))
-
-pub carry_paste : (s p : List ℕ) (k : ℕ) → record { bytes = paste (carry_of s).bytes (length s) p (min k (length p)); len = length s + min k (length p) } ≡ carry_of (s ++ take k p)
-unfolding carry_of
-carry_paste s p k =
-    let n = min k (length p) in
-    let l : length (s ++ take k p) ≡ length s + n = length-append s (take k p) ∙ ap (λ (m : ℕ). length s + m) (length-take k p) in
-    let m : room - length s - n ≡ room - (length s + n) = omega arith in
-    rw (l, take-append_seam s (replicate (room - length s) 0), drop-append-add s (replicate (room - length s) 0) n, drop_replicate n (room - length s), m, take_least k p)
-
--- so a part is kept, and a carry topped up
-pub keep_carry : (p b : List ℕ) (n : ℕ) → n ≡ min room (length p) → b ≡ paste (replicate room 0) 0 p n → record { bytes = b; len = n } ≡ carry_of (take room p)
-unfolding carry_of
-keep_carry p b n e f =
-    ap (λ (l : List ℕ). record { bytes = l; len = n }) f
-    ∙ ap (λ (m : ℕ). record { bytes = paste (replicate room 0) 0 p m; len = m }) e
-    ∙ ap (λ (m : ℕ). record { bytes = paste (replicate room 0) 0 p (min room (length p)); len = m }) (sym (zero-add (min room (length p))))
-    ∙ carry_paste [] p room
-
-pub topped_carry : (s p b : List ℕ) (to h n : ℕ) → h ≡ length s → n ≡ min (to - h) (length p) → b ≡ paste (carry_of s).bytes h p n → record { carry = record { bytes = b; len = h + n }; taken = n } ≡ topped_of s to p
-unfolding topped_of
-topped_carry s p b to h n e f g =
-    rw (g, f, e)
-    (ap (λ (c : Carry). record { carry = c; taken = min (to - length s) (length p) }) (carry_paste s p (to - length s))
-    ∙ ap (λ (m : ℕ). record { carry = carry_of (s ++ up_to to s p); taken = m }) (sym (length-take (to - length s) p)))
-
 -- how far a record reaches, by the size that its length tells
-pub reach_told : (s : List ℕ) → reach s ≡ pick (eqb (told_size s) 0) 2 (told_size s)
+pub reach_told : (s : List ℕ) → reach s ≡ unwrap_or (told_size s) 2
 unfolding reach told_size
 reach_told s = by (no_length s || outside_length s) where
-  by : (b : Bool) → pick b 2 (record_size s) ≡ pick (eqb (pick b 0 (record_size s)) 0) 2 (pick b 0 (record_size s))
+  by : (b : Bool) → pick b 2 (record_size s) ≡ unwrap_or (pick b None (Some (record_size s))) 2
   by true = refl
-  by false = rw (ne_eqb (record_size s) 0 (λ z. omega arith))
+  by false = refl
 
-pub told_most : (s : List ℕ) → told_size s ≤ room
+pub told_most : (s : List ℕ) → unwrap_or (told_size s) 2 ≤ room
 unfolding told_size
 told_most s = by (no_length s) (outside_length s) refl where
-  by : (a b : Bool) → outside_length s ≡ b → pick (a || b) 0 (record_size s) ≤ room
+  by : (a b : Bool) → outside_length s ≡ b → unwrap_or (pick (a || b) None (Some (record_size s))) 2 ≤ room
   by true b o = omega arith
   by false true o = omega arith
   by false false o = omega (arith, inside s o)
 
-pub reach_first : (s : List ℕ) → told_size s ≡ 0 → Reach s 2
-reach_first s e = record { is = sym (reach_told s ∙ rw e); small = omega arith }
+pub reach_is : (s : List ℕ) → Reach s (unwrap_or (told_size s) 2)
+reach_is s = record { is = sym (reach_told s); small = told_most s }
 
-pub reach_size : (s : List ℕ) (r : ℕ) → r ≡ told_size s → (r ≡ 0 → ⊥) → Reach s r
-reach_size s r e h = record { is = sym (reach_told s ∙ rw (← e, ne_eqb r 0 h)); small = rw e (told_most s) }
+-- the bytes of a part put after those carried
+pub topped_held : (s p : List ℕ) (to n : ℕ) → to ≤ room → length s ≤ room → n ≡ min (to - length s) (length p) → record { carry = record { held = buffer_of room (take room (s ++ take n p)) }; taken = n } ≡ topped_of s to p
+unfolding topped_of
+topped_held s p to n h l e =
+    let t : take n p ≡ up_to to s p = ap (λ m. take m p) e ∙ take_min (to - length s) p in
+    let k : n ≡ length (up_to to s p) = e ∙ sym (length-take (to - length s) p) in
+    let a : take room (s ++ up_to to s p) ≡ s ++ up_to to s p = take_all room (s ++ up_to to s p) (omega (arith, length-append s (up_to to s p))) in
+    rw (t, a) (ap (λ m. record { carry = carry_of (s ++ up_to to s p); taken = m }) k)
 
 -- what is carried, what a part adds up to a count, and what is left of the part, are all
 take_rest : (n : ℕ) (p : List ℕ) → take n p ++ drop (length (take n p)) p ≡ p
@@ -141,17 +109,7 @@ front_reach {s} {n} t f =
 
 -- it fits a carry
 pub reach_most : (s : List ℕ) → reach s ≤ room
-reach_most s = rw (reach_told s) (by (eqb (told_size s) 0) (told_size s) (told_most s))
-  where
-    by : (b : Bool) (n : ℕ) → n ≤ room → pick b 2 n ≤ room
-    by true n h = omega arith
-    by false n h = h
-
--- the first k of a list, and what follows as many
-take_drop_length : (k : ℕ) (l : List ℕ) → take k l ++ drop (length (take k l)) l ≡ l
-take_drop_length zero l = refl
-take_drop_length (suc k) [] = refl
-take_drop_length (suc k) (x ∷ l) = ap (λ m. x ∷ m) (take_drop_length k l)
+reach_most s = rw (reach_told s) (told_most s)
 
 -- a carry that is filled
 pub fill_carried : (c p : List ℕ) → carried_of (filled_of c p).carry ≡ filled c p
@@ -172,7 +130,7 @@ module _ (c p : List ℕ) where
 
   -- and what it took, with what is left, is the part
   pub more_left : more c p ++ left c p ≡ p
-  more_left = take_drop_length (reach (c ++ p) - length c) p
+  more_left = take_rest (reach (c ++ p) - length c) p
 
   -- where the record still wants more, the whole part was taken
   pub fill_wants : wants_more (filled c p) ≡ true → more c p ≡ p

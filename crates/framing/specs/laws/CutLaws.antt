@@ -1,6 +1,6 @@
 -- Laws of a cut: whether more bytes may mend it.
-use Rattle.std.specs.Prelude.{ℕ, ◌<◌, ◌≤◌, ◌≡◌, refl, Bool, true, false, not, ◌&&◌, ◌||◌, List, [], ◌++◌, length, ltb}
-use Rattle.std.proofs.Common.{arith, sym, ◌∙◌, length-append, ltb-true, ltb-false, le-ltb}
+use Rattle.std.specs.Prelude.{ℕ, ◌<◌, ◌≤◌, ◌≡◌, refl, Bool, true, false, not, ◌&&◌, ◌||◌, Option, Some, None, List, [], ◌++◌, length, ltb}
+use Rattle.std.proofs.Common.{arith, ◌∙◌, length-append, ltb-true, ltb-false, le-ltb}
 use Rattle.std.proofs.Math.Bool.{or-true}
 use Rattle.std.proofs.lemmas.Bool.{false≢true}
 use Rattle.laws.specs.Pick.{pick}
@@ -29,13 +29,17 @@ cut_one s = by (no_length s) (outside_length s) (too_short s) where
   by false false true = refl
   by false false false = refl
 
--- by the size that the length tells
-pub wants_told : (s : List ℕ) → 2 ≤ length s → wants_more s ≡ ltb (length s) (told_size s)
+-- by the size that the length tells: more bytes are wanted up to there
+abbrev pub short_of : ℕ → Option ℕ → Bool
+short_of l None = false
+short_of l (Some n) = ltb l n
+
+pub wants_told : (s : List ℕ) → 2 ≤ length s → wants_more s ≡ short_of (length s) (told_size s)
 unfolding told_size
-wants_told s h = rw (le-ltb (length s) 2 h) (by (outside_length s) (length s) (record_size s)) where
-  by : (b : Bool) (l n : ℕ) → (not b && ltb l n) ≡ ltb l (pick b 0 n)
-  by true l n = sym (le-ltb l 0 (omega arith))
-  by false l n = refl
+wants_told s h = rw (le-ltb (length s) 2 h) (by (outside_length s)) where
+  by : (b : Bool) → (not b && too_short s) ≡ short_of (length s) (pick b None (Some (record_size s)))
+  by true = refl
+  by false = refl
 
 -- no bytes want more
 pub none_want : wants_more [] ≡ true

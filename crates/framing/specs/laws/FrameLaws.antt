@@ -1,5 +1,6 @@
 -- Laws of a frame: what leads to each answer, its time and size, and that it looks only at its own bytes.
-use Rattle.std.specs.Prelude.{ℕ, ◌<◌, ◌≤◌, ◌^◌, ◌≡◌, refl, Bool, true, false, not, ◌||◌, List, ◌++◌, length, get_or, take, drop, leb, eqb}
+use Rattle.std.specs.Prelude.{ℕ, ◌<◌, ◌≤◌, ◌^◌, ◌≡◌, refl, Bool, true, false, not, ◌||◌, Some, None, List, ◌++◌, length, get_or, take, drop, leb, eqb}
+use Rattle.std.specs.Option.{unwrap_or}
 use Rattle.std.proofs.Common.{arith, sym, ap, ◌∙◌, take-append-drop, leb-true, leb-false, eqb-true, ne_eqb, le-leb}
 use Rattle.std.proofs.Math.Bool.{or-true}
 use Rattle.std.proofs.lemmas.Bool.{eqb-false, lt-leb}
@@ -7,7 +8,8 @@ use Rattle.laws.specs.Pick.{pick}
 use Rattle.framing.specs.declared.frame.Frame.{Frame}
 use Rattle.framing.specs.declared.frame.Frame.TheVariants.{Cut, Bad, Transfer, Reset}
 use Rattle.framing.specs.Frame.{length_of, kind_of, time_of, control_of, data_of, rs_of, rw_of, is_transfer, is_reset, unknown_kind, wrong_length, late_time, record_size, cut_at, bad_at, frame_of, size_of, whole_size}
-use Rattle.framing.specs.laws.FrontLaws.{Front, uncut_front, cut_size, whole_fits, byte_append, num16_append, num64_append, length_same, front_append, front_take}
+use Rattle.framing.specs.engine.Reading.{Whole}
+use Rattle.framing.specs.laws.FrontLaws.{Front, some_front, whole_front, uncut_front, none_cut, cut_size, whole_fits, byte_append, num16_append, num64_append, length_same, front_append, front_take}
 
 -- what is bad, rule by rule
 pub kind_bad : (s : List ℕ) → (kind_of s ≡ 1 → ⊥) → (kind_of s ≡ 2 → ⊥) → bad_at s ≡ true
@@ -44,6 +46,9 @@ pub cut_frame : (s : List ℕ) → cut_at s ≡ true → frame_of s ≡ Cut
 unfolding frame_of
 cut_frame s e = rw e
 
+pub none_frame : (s : List ℕ) → whole_size s ≡ None → frame_of s ≡ Cut
+none_frame s e = cut_frame s (none_cut s e)
+
 module _ {s : List ℕ} {n : ℕ} (f : Front s n) where
   pub bad_frame : bad_at s ≡ true → frame_of s ≡ Bad n
   unfolding frame_of
@@ -56,6 +61,28 @@ module _ {s : List ℕ} {n : ℕ} (f : Front s n) where
   pub reset_frame : kind_of s ≡ 2 → bad_at s ≡ false → frame_of s ≡ Reset (time_of s)
   unfolding frame_of
   reset_frame k b = rw (f.uncut, b, k)
+
+-- of a record whose size and kind are known
+pub late_transfer : {s : List ℕ} → Whole s 14 1 → 2 ^ 48 ≤ time_of s → frame_of s ≡ Bad 14
+late_transfer {s} w h = bad_frame (whole_front w (omega arith) (omega arith)) (time_bad s h)
+
+pub late_reset : {s : List ℕ} → Whole s 12 2 → 2 ^ 48 ≤ time_of s → frame_of s ≡ Bad 12
+late_reset {s} w h = bad_frame (whole_front w (omega arith) (omega arith)) (time_bad s h)
+
+pub stray_whole : {s : List ℕ} → Whole s 14 1 → 4 ≤ control_of s → frame_of s ≡ Bad 14
+stray_whole {s} w h = bad_frame (whole_front w (omega arith) (omega arith)) (control_bad s w.told h)
+
+pub transfer_whole : {s : List ℕ} → Whole s 14 1 → time_of s < 2 ^ 48 → control_of s < 4 → frame_of s ≡ Transfer (time_of s) (rs_of s) (rw_of s) (data_of s)
+transfer_whole {s} w t h =
+    transfer_frame (whole_front w (omega arith) (omega arith)) w.told (transfer_good s w.told (omega (arith, w.sized)) t h)
+
+pub reset_whole : {s : List ℕ} → Whole s 12 2 → time_of s < 2 ^ 48 → frame_of s ≡ Reset (time_of s)
+reset_whole {s} w t =
+    reset_frame (whole_front w (omega arith) (omega arith)) w.told (reset_good s w.told (omega (arith, w.sized)) t)
+
+pub ruleset transfer_laws = (late_transfer, stray_whole, transfer_whole)
+
+pub ruleset reset_laws = (late_reset, reset_whole)
 
 -- how a record of n bytes is told: by its kind and size it is bad, or it has all the bytes of its kind
 data Told (s : List ℕ) (n : ℕ) : Type 0 where
@@ -73,6 +100,18 @@ told s n = by (is_transfer s) (is_reset s) (eqb n 14) (eqb n 12) refl refl refl 
   by false true c true e f g h = reset (eqb-true (kind_of s) 2 f) (eqb-true n 12 h)
   by false true c false e f g h = no_reset (eqb-true (kind_of s) 2 f) (eqb-false n 12 h)
   by false false c d e f g h = unknown (eqb-false (kind_of s) 1 e) (eqb-false (kind_of s) 2 f)
+
+-- so where it is neither a transfer nor a reset of the right length, it is bad
+pub other_frame : {s : List ℕ} {n : ℕ} → Front s n → (kind_of s ≡ 1 → n ≡ 14 → ⊥) → (kind_of s ≡ 2 → n ≡ 12 → ⊥) → frame_of s ≡ Bad n
+other_frame {s} {n} f h k = bad_frame f (by (told s n)) where
+  by : Told s n → bad_at s ≡ true
+  by (unknown i j) = kind_bad s i j
+  by (no_transfer i j) = transfer_length_bad s i (λ e. j (omega arith))
+  by (no_reset i j) = reset_length_bad s i (λ e. j (omega arith))
+  by (transfer i j) = absurd (h i j)
+  by (reset i j) = absurd (k i j)
+
+pub ruleset any_laws = (none_frame, some_front, other_frame)
 
 -- a frame, seen with what holds of the bytes that it was read off
 pub data Seen (s : List ℕ) : Frame → Type 0 where
@@ -133,14 +172,18 @@ pub reset_time : (s : List ℕ) (t : ℕ) → frame_of s ≡ Reset t → t < 2 ^
 reset_time s t e = rw e at (frame_time s)
 
 -- a frame's size is read off the lengths alone
-pub size_whole : (s : List ℕ) → size_of (frame_of s) ≡ whole_size s
+pub size_whole : (s : List ℕ) → size_of (frame_of s) ≡ unwrap_or (whole_size s) 0
 unfolding whole_size
 size_whole s = by (frame_of s) (seen s) where
-  by : (f : Frame) → Seen s f → size_of f ≡ pick (cut_at s) 0 (record_size s)
+  by : (f : Frame) → Seen s f → size_of f ≡ unwrap_or (pick (cut_at s) None (Some (record_size s))) 0
   by f (cut u) = rw u
   by f (bad g b) = rw (g.uncut, g.size)
   by f (transfer g k b h) = rw g.uncut g.size
   by f (reset g k b h) = rw g.uncut g.size
+
+pub size_record : (s : List ℕ) → cut_at s ≡ false → size_of (frame_of s) ≡ record_size s
+unfolding whole_size
+size_record s u = size_whole s ∙ ap (λ b. unwrap_or (pick b None (Some (record_size s))) 0) u
 
 -- it lies within the bytes that are there
 pub size_within : (s : List ℕ) → size_of (frame_of s) ≤ length s

@@ -1,14 +1,14 @@
 -- Laws of a log's records: the two equations, induction, and logs that follow each other.
-use Rattle.std.specs.Prelude.{ℕ, zero, suc, ◌+◌, ◌≡◌, refl, Bool, true, false, List, [], ◌∷◌, ◌++◌, length, take, drop}
-use Rattle.std.proofs.Common.{add-one, sym, ap, ◌∙◌, append_assoc, length-append, take-append-drop, length-take-le}
+use Rattle.std.specs.Prelude.{ℕ, zero, suc, ◌+◌, ◌≡◌, refl, Bool, true, false, None, List, [], ◌∷◌, ◌++◌, length, take, drop}
+use Rattle.std.proofs.Common.{arith, add-one, sym, ap, ◌∙◌, append_assoc, length-append, take-append-drop, length-take-le}
 use Rattle.std.proofs.Math.Numerals.{add-two}
 use Rattle.std.proofs.lemmas.Bool.{false≢true}
 use Rattle.std.proofs.Math.Seq.{take-length, drop-length}
 use Rattle.std.proofs.lemmas.List.{take-append-le, drop-append-le}
-use Rattle.framing.specs.Frame.{length_of, record_size, cut_at}
+use Rattle.framing.specs.Frame.{length_of, record_size, cut_at, whole_size}
 use Rattle.framing.specs.laws.CutLaws.{broken, broken_append, broken_cut}
 use Rattle.framing.specs.Frames.{Pieces, then, pieces_from, pieces, frames, tail, records_of, joined}
-use Rattle.framing.specs.laws.FrontLaws.{Front, uncut_front, front_append, front_take}
+use Rattle.framing.specs.laws.FrontLaws.{Front, uncut_front, none_cut, front_append, front_take}
 
 skip : (k : ℕ) (s : List ℕ) → pieces_from k s ≡ pieces (drop k s)
 unfolding pieces_from
@@ -67,6 +67,13 @@ module _ (P : List ℕ → Type 0) (ends : (s : List ℕ) → cut_at s ≡ true 
 
   pub frames_induction : (s : List ℕ) → P s
   frames_induction s = from 0 s
+
+-- so the count goes on record by record, and ends at a cut
+pub records_next : {s : List ℕ} {n : ℕ} → Front s n → records_of s ≡ 1 + records_of (drop n s)
+records_next f = let n = ap (λ (p : Pieces). length p.records) (front_next f) in omega arith
+
+pub records_end : (s : List ℕ) → whole_size s ≡ None → records_of s ≡ 0
+records_end s e = ap length (frames_cut s (none_cut s e))
 
 -- the pieces give the log back
 abbrev pub bytes_of : Pieces → List ℕ

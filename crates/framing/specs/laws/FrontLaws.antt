@@ -1,6 +1,8 @@
 -- Laws of the record at the front: its size, off the lengths alone, and what lies within it.
-use Rattle.std.specs.Prelude.{ℕ, ◌+◌, ◌<◌, ◌≤◌, ◌≡◌, refl, Bool, true, false, ◌||◌, List, ◌++◌, length, get_or, take, drop, ltb}
-use Rattle.std.proofs.Common.{arith, sym, ap, ◌∙◌, length-append, take-append-drop, length-take-le, ltb-false, lt-ltb, le-ltb}
+use Rattle.std.specs.Prelude.{ℕ, ◌+◌, ◌<◌, ◌≤◌, ◌≡◌, refl, Bool, true, false, ◌||◌, Option, Some, None, List, ◌++◌, length, get_or, take, drop, ltb, leb}
+use Rattle.std.specs.Option.{unwrap_or}
+use Rattle.std.proofs.Common.{arith, sym, ap, ◌∙◌, length-append, take-append-drop, length-take-le, leb-true, leb-false, ltb-false, lt-ltb, le-ltb}
+use Rattle.std.proofs.lemmas.Option.{none-some}
 use Rattle.std.proofs.Math.Bool.{or-true}
 use Rattle.std.proofs.lemmas.Bool.{false≢true}
 use Rattle.std.proofs.Math.ListN.{get_or-append}
@@ -50,51 +52,72 @@ whole_front {s} {n} {k} w l m =
     }
 
 -- the size that the length tells, where it is there and where it lies inside
-pub told_none : (s : List ℕ) → length s < 2 → told_size s ≡ 0
+pub told_none : (s : List ℕ) → length s < 2 → told_size s ≡ None
 unfolding told_size
 told_none s h = rw (lt-ltb (length s) 2 h)
 
-pub told_low : (s : List ℕ) → length_of s < 2 → told_size s ≡ 0
+pub told_low : (s : List ℕ) → length_of s < 2 → told_size s ≡ None
 unfolding told_size
 told_low s h = rw (lt-ltb (length_of s) 2 h, or-true (no_length s))
 
-pub told_high : (s : List ℕ) → 64 < length_of s → told_size s ≡ 0
+pub told_high : (s : List ℕ) → 64 < length_of s → told_size s ≡ None
 unfolding told_size
 told_high s h = rw (lt-ltb 64 (length_of s) h, or-true (ltb (length_of s) 2), or-true (no_length s))
 
-pub told_size_lem : (s : List ℕ) → 2 ≤ length s → 2 ≤ length_of s → length_of s ≤ 64 → told_size s ≡ record_size s
+pub told_size_lem : (s : List ℕ) → 2 ≤ length s → 2 ≤ length_of s → length_of s ≤ 64 → told_size s ≡ Some (record_size s)
 unfolding told_size
 told_size_lem s h l m = rw (le-ltb (length s) 2 h, le-ltb (length_of s) 2 l, le-ltb 64 (length_of s) m)
 
--- the size in hand, by the size that the length tells
-pub whole_told : (s : List ℕ) → whole_size s ≡ pick (ltb (length s) (told_size s)) 0 (told_size s)
+pub ruleset told_laws = (told_none, told_low, told_high, told_size_lem)
+
+-- a size, where that many bytes are there
+abbrev pub fits_in : ℕ → Option ℕ → Option ℕ
+fits_in l None = None
+fits_in l (Some n) = pick (leb n l) (Some n) None
+
+-- the size in hand, by the size that the length tells: none where there are fewer bytes
+pub whole_told : (s : List ℕ) → whole_size s ≡ fits_in (length s) (told_size s)
 unfolding whole_size told_size cut_at
 whole_told s = by (no_length s || outside_length s) (length s) (record_size s) where
-  by : (a : Bool) (l n : ℕ) → pick (a || ltb l n) 0 n ≡ pick (ltb l (pick a 0 n)) 0 (pick a 0 n)
-  by true l n = rw (le-ltb l 0 (omega arith))
-  by false l n = refl
+  by : (a : Bool) (l n : ℕ) → pick (a || ltb l n) None (Some n) ≡ fits_in l (pick a None (Some n))
+  by true l n = refl
+  by false l n = less (leb n l) refl where
+    less : (b : Bool) → leb n l ≡ b → pick (ltb l n) None (Some n) ≡ pick b (Some n) None
+    less true e = rw (le-ltb l n (leb-true n l e)) refl
+    less false e = rw (lt-ltb l n (leb-false n l e)) refl
 
 -- no size in hand is a cut, and any other is the record's
-pub cut_size : (s : List ℕ) → whole_size s ≡ 0 → cut_at s ≡ true
+pub none_cut : (s : List ℕ) → whole_size s ≡ None → cut_at s ≡ true
 unfolding whole_size
-cut_size s e = by (cut_at s) e where
-  by : (b : Bool) → pick b 0 (record_size s) ≡ 0 → b ≡ true
+none_cut s e = by (cut_at s) e where
+  by : (b : Bool) → pick b None (Some (record_size s)) ≡ None → b ≡ true
   by true e = refl
-  by false e = absurd (omega arith)
+  by false e = absurd (none-some (record_size s) (sym e))
 
-pub front : (s : List ℕ) (n : ℕ) → n ≡ whole_size s → (n ≡ 0 → ⊥) → Front s n
+pub some_front : (s : List ℕ) (n : ℕ) → whole_size s ≡ Some n → Front s n
 unfolding whole_size
-front s n e h = by (cut_at s) refl e where
-  by : (b : Bool) → cut_at s ≡ b → n ≡ pick b 0 (record_size s) → Front s n
-  by true u e = absurd (h e)
-  by false u e = rw e (uncut_front s u)
+some_front s n e = by (cut_at s) refl e where
+  by : (b : Bool) → cut_at s ≡ b → pick b None (Some (record_size s)) ≡ Some n → Front s n
+  by true u e = absurd (none-some n e)
+  by false u e = rw (ap (λ o. unwrap_or o 0) e) at (uncut_front s u)
 
-pub whole_fits : (s : List ℕ) → whole_size s ≤ length s
-unfolding whole_size
-whole_fits s = by (cut_at s) refl where
-  by : (b : Bool) → cut_at s ≡ b → pick b 0 (record_size s) ≤ length s
-  by true u = omega arith
-  by false u = (uncut_front s u).fits
+pub cut_size : (s : List ℕ) → unwrap_or (whole_size s) 0 ≡ 0 → cut_at s ≡ true
+cut_size s e = by (whole_size s) refl e where
+  by : (w : Option ℕ) → whole_size s ≡ w → unwrap_or w 0 ≡ 0 → cut_at s ≡ true
+  by None w e = none_cut s w
+  by (Some n) w e = absurd (omega (arith, (some_front s n w).size, e))
+
+pub front : (s : List ℕ) (n : ℕ) → n ≡ unwrap_or (whole_size s) 0 → (n ≡ 0 → ⊥) → Front s n
+front s n e h = by (whole_size s) refl e where
+  by : (w : Option ℕ) → whole_size s ≡ w → n ≡ unwrap_or w 0 → Front s n
+  by None w e = absurd (h e)
+  by (Some m) w e = rw e (some_front s m w)
+
+pub whole_fits : (s : List ℕ) → unwrap_or (whole_size s) 0 ≤ length s
+whole_fits s = by (whole_size s) refl where
+  by : (w : Option ℕ) → whole_size s ≡ w → unwrap_or w 0 ≤ length s
+  by None w = omega arith
+  by (Some n) w = (some_front s n w).fits
 
 -- what is within a slice reads the same whatever follows it
 pub byte_append : (s t : List ℕ) (i : ℕ) → i < length s → get_or (s ++ t) i 0 ≡ get_or s i 0

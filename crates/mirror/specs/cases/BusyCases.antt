@@ -3,7 +3,6 @@ use Rattle.std.specs.Prelude.{ℕ, ◌≡◌, refl, Bool, true, List, [], ◌∷
 use Rattle.laws.specs.Bit.{pack}
 use Rattle.framing.specs.Frame.{num16, num64, cut_at, bad_at, frame_of, time_of}
 use Rattle.chip.specs.Sizes.{one_line}
-use Rattle.chip.specs.Sound.{faultless}
 use Rattle.mirror.specs.Panel.{fresh_panel}
 use Rattle.mirror.specs.engine.Record.{transferred}
 use Rattle.mirror.specs.Table.{record_of}
@@ -32,9 +31,9 @@ entries = noted_from (fresh_panel one_line 10000 1640 40) log
 
 -- both halves of the pair begun at 39 are ignored, though the chip is free by 41, and the next pair is not skewed
 answers : numbers entries ≡ 0 ∷ 3 ∷ 5 ∷ 3 ∷ 1 ∷ 0 ∷ []
-unfolding num16 num64 cut_at bad_at frame_of faultless transferred record_of pack
+unfolding num16 num64 cut_at bad_at frame_of transferred record_of pack
 answers = refl
 
 starts : begun true none entries ≡ 0 ∷ 39 ∷ 39 ∷ 39 ∷ 42 ∷ 42 ∷ []
-unfolding num16 num64 cut_at bad_at frame_of faultless transferred record_of pack
+unfolding num16 num64 cut_at bad_at frame_of transferred record_of pack
 starts = refl

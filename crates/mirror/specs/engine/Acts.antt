@@ -1,47 +1,72 @@
 -- How the engine acts on a transfer: on a byte that completes first, and then on the rest.
-use Rattle.std.specs.Prelude.{ℕ, ◌≡◌, Bool, false, not, List, leb, ltb}
+use Rattle.std.specs.Prelude.{ℕ, ◌+◌, ◌*◌, ◌/◌, ◌%◌, ◌<◌, ◌≡◌, Bool, List, leb, Option, Some, None}
 use Rattle.std.specs.Bool.{beq}
 use Rattle.laws.specs.Pick.{pick}
+use Rattle.framing.specs.declared.frame.Frame.{Frame}
+use Rattle.framing.specs.declared.frame.Frame.TheVariants as frame
+use Rattle.chip.specs.Step.{passed}
+use Rattle.mirror.specs.Panel.{time_end}
+use Rattle.mirror.specs.Words.{done}
 use Rattle.mirror.specs.engine.Way.{Way, finish_of, first_of, unless_torn}
-use Rattle.mirror.specs.engine.Record.{went}
-use Rattle.mirror.specs.engine.Live.{panel_of, recorded_of}
+use Rattle.mirror.specs.engine.Record.{recorded, read_as, went}
+use Rattle.mirror.specs.engine.Live.{panel_of, settled_of}
+use Rattle.mirror.specs.declared.answer.Verdict.{Verdict}
 use Rattle.mirror.specs.declared.half.Half.{Half}
 use Rattle.mirror.specs.declared.half.Half.TheVariants.{Empty, Ignored, Waiting}
 use Rattle.mirror.specs.declared.live.Live.{Live}
-use Rattle.mirror.specs.declared.panel.Times.{Times}
 
--- whether a write with this RS is the second half of a pair that counts
-abbrev pub ends_of : Half → Bool → Bool
-ends_of Empty rs = false
-ends_of (Ignored r w) rs = false
-ends_of (Waiting r w nibble) rs = pick (not (beq r rs)) false (not w)
+-- the time of a record that is neither cut nor bad is one that a panel can have
+abbrev pub IsInTime : Frame → Type 0
+IsInTime frame.Cut = Unit {0}
+IsInTime (frame.Bad size) = Unit {0}
+IsInTime (frame.Transfer time rs reads bus) = time < time_end
+IsInTime (frame.Reset time) = time < time_end
 
--- whether the chip takes a byte that a transfer completes
-abbrev pub completes_of : Bool → Half → Bool → Bool → Bool → Bool
-completes_of eight half free rs reads = pick reads false (pick eight free (ends_of half rs))
+-- the byte of a write that is the second half of a pair that counts
+abbrev pub ended_byte : Half → Bool → ℕ → Option ℕ
+ended_byte Empty rs bus = None
+ended_byte (Ignored r w) rs bus = None
+ended_byte (Waiting r w nibble) rs bus = pick (beq r rs) (pick w None (Some (nibble % 16 * 16 + bus / 16))) None
+
+-- the byte that a transfer completes, where the chip takes one
+abbrev pub completed_of : Bool → Half → Bool → Bool → Bool → ℕ → Option ℕ
+completed_of eight half free rs reads bus =
+    pick reads None (pick eight (pick free (Some bus) None) (ended_byte half rs bus))
 
 -- the way of a transfer at width 8 that completes none
 abbrev pub rest_of : Bool → Bool → Bool → Way
 rest_of free rs reads = pick reads (pick rs (pick free Way.Read Way.Ignored) Way.Status) Way.Ignored
 
--- the way of a second half that tears no pair and completes none, by what waits
-abbrev pub end_of : ℕ → Bool → Way
-end_of waits rs = pick (ltb waits 2) Way.Ignored (pick rs Way.ReadEnd Way.StatusEnd)
+-- the way of a second half that tears no pair and completes none, by the nibble that waits
+abbrev pub end_of : Option ℕ → Bool → Way
+end_of None rs = Way.Ignored
+end_of (Some nibble) rs = pick rs Way.ReadEnd Way.StatusEnd
 
--- what the engine's four steps promise: the state and the memories that a way comes to
-abbrev pub Finishes : ℕ → Bool → ℕ → Times → Live → List ℕ → List ℕ → Live → List ℕ → List ℕ → Type 0
-Finishes time rs byte t k d p r e q =
-    (reads : Bool) (bus : ℕ) → recorded_of t r e q ≡ went (finish_of rs byte) time rs reads bus byte (panel_of t k d p)
+-- the half that waits for it
+abbrev pub half_as : Bool → Bool → Option ℕ → Half
+half_as r w None = Ignored r w
+half_as r w (Some nibble) = Waiting r w nibble
 
-abbrev pub Rests : ℕ → Bool → Bool → Times → Live → List ℕ → List ℕ → Live → Type 0
-Rests time rs reads t k d p r =
-    (bus byte : ℕ) → recorded_of t r d p ≡ went (rest_of (leb k.busy time) rs reads) time rs reads bus byte (panel_of t k d p)
+-- what the engine's steps promise: the state, the memories and the answer that a way comes to
+abbrev pub Finishes : ℕ → Bool → ℕ → Live → List ℕ → List ℕ → Live → List ℕ → List ℕ → Verdict → Type 0
+Finishes time rs byte k d p k' d' p' v =
+    (reads : Bool) (bus : ℕ) → settled_of k' d' p' v ≡ went (finish_of rs byte) time rs reads bus byte (panel_of k d p)
 
-abbrev pub Begins : ℕ → Bool → Bool → ℕ → Live → List ℕ → List ℕ → Live → Type 0
-Begins time rs reads bus k d p r =
-    (t : Times) (byte : ℕ) → recorded_of t r d p ≡ went (first_of (leb k.busy time) rs reads) time rs reads bus byte (panel_of t k d p)
+abbrev pub Reads : ℕ → ℕ → Live → Live → Verdict → Type 0
+Reads time byte k k' v =
+    (d p : List ℕ) →
+    let q = panel_of k d p in
+    settled_of k' d p v ≡ recorded (done time (passed q.sheet) q.times.short q) (read_as k.registers.good) (pick k.registers.good byte 0) 14
 
-abbrev pub Ends : ℕ → Bool → Bool → Times → Live → Live → Type 0
-Ends time rs reads t k r =
-    (d p : List ℕ) (bus byte : ℕ) →
-    recorded_of t r d p ≡ went (unless_torn k.rs k.reads rs reads (end_of k.waits rs)) time rs reads bus byte (panel_of t k d p)
+abbrev pub Rests : ℕ → Bool → Bool → Live → List ℕ → List ℕ → Live → Verdict → Type 0
+Rests time rs reads k d p k' v =
+    (bus byte : ℕ) → settled_of k' d p v ≡ went (rest_of (leb k.busy time) rs reads) time rs reads bus byte (panel_of k d p)
+
+abbrev pub Begins : ℕ → Bool → Bool → ℕ → Live → List ℕ → List ℕ → Live → Verdict → Type 0
+Begins time rs reads bus k d p k' v =
+    (byte : ℕ) → settled_of k' d p v ≡ went (first_of (leb k.busy time) rs reads) time rs reads bus byte (panel_of k d p)
+
+abbrev pub Ends : ℕ → Bool → Bool → Bool → Bool → Option ℕ → Live → Live → Verdict → Type 0
+Ends time rs reads r w nibble k k' v =
+    k.half ≡ half_as r w nibble → (d p : List ℕ) (bus byte : ℕ) →
+    settled_of k' d p v ≡ went (unless_torn r w rs reads (end_of nibble rs)) time rs reads bus byte (panel_of k d p)

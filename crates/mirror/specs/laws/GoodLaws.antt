@@ -10,7 +10,7 @@ use Rattle.chip.specs.declared.sheet.Sheet.{Sheet}
 use Rattle.mirror.specs.Answer.{carried_out}
 use Rattle.mirror.specs.Panel.{sound_panel}
 use Rattle.mirror.specs.Words.{is_good, nibble_of, high, here_of, status_of}
-use Rattle.mirror.specs.Table.{waits, is_first, is_back, tears, ignores, is_status, is_doubtful, is_none, byte_of, sheet_for, byte_for, panel_for}
+use Rattle.mirror.specs.Table.{waits, is_first, is_back, tears, ignores, is_status, is_doubtful, is_none, byte_of, byte_for}
 use Rattle.mirror.specs.Case.{Acts, Case}
 use Rattle.mirror.specs.Case.Case.{unsound, cut, bad, back, reset, torn, ignored, nothing, held, status, doubtful, taken}
 use Rattle.mirror.specs.Answers.{answer_to, panel_after}
@@ -18,7 +18,7 @@ use Rattle.mirror.specs.Good.{CarriedOut, Instructed, Remembered, DataRead, read
 use Rattle.mirror.specs.laws.CarriedLaws.{carried_sheet, reset_sheet}
 use Rattle.mirror.specs.laws.RecordKeeps.{not_both, untaken_keeps}
 use Rattle.mirror.specs.laws.TableLaws.{tabled}
-use Rattle.mirror.specs.laws.TableCase.{case, answer_case, answer_panel, answer_number}
+use Rattle.mirror.specs.laws.TableCase.{case, answer_case, answer_number}
 use Rattle.mirror.specs.declared.panel.Panel.{Panel}
 
 module _ (p : Panel) (log : List ℕ) where

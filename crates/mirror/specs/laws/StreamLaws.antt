@@ -1,20 +1,19 @@
 -- Laws of the streaming form: feeding a, then b, is feeding a ++ b; feeding it all and ending is a run.
-use Rattle.std.specs.Prelude.{ℕ, ◌+◌, ◌-◌, ◌≤◌, ◌≡◌, Bool, not, ◌||◌, ◌&&◌, length, take, drop, replicate, ltb}
+use Rattle.std.specs.Prelude.{ℕ, ◌+◌, ◌-◌, ◌≤◌, ◌≡◌, Bool, not, ◌||◌, ◌&&◌, length, drop, replicate, ltb, Option}
 use Rattle.std.proofs.Math.Path.{refl, sym, ap}
-use Rattle.std.proofs.Common.{◌∙◌, arith, add-zero, length-append, length-drop, length-take, drop-drop, ltb-true, ltb-false, lt-ltb, le-ltb}
+use Rattle.std.proofs.Common.{◌∙◌, arith, add-zero, length-append, length-drop, length-take, drop-drop, ltb-true, ltb-false, lt-ltb, le-ltb, take_all, take}
 use Rattle.std.proofs.Math.Bool.{true, false}
 use mathlib.Core.List.{List, [], ◌∷◌, ◌++◌, append_assoc, append-nil}
 use Rattle.std.proofs.Math.Seq.{drop-append_seam}
 use Rattle.laws.specs.Pick.{pick}
 use Rattle.framing.specs.Frame.{frame_of, cut_at, wants_more, record_size}
-use Rattle.framing.specs.laws.CutLaws.{broken, cut_either, cut_one, none_want, broken_append, wants_cut}
+use Rattle.framing.specs.laws.CutLaws.{wants_few, broken, cut_either, cut_one, none_want, broken_append, wants_cut}
 use Rattle.framing.specs.Frames.{Pieces, frames, tail, joined}
 use Rattle.framing.specs.laws.FrontLaws.{uncut_front}
 use Rattle.framing.specs.laws.FrameLaws.{cut_frame, frame_cut}
 use Rattle.framing.specs.laws.FramesLaws.{frames_cut, tail_cut, tail_next, joined_frames, tail_is_cut, pieces_append, pieces_broken, record_first}
 use Rattle.framing.specs.Carry.{carried_of, carry_of, wanting_of, reach, topped_of, more, filled, filled_of, room}
 use Rattle.framing.specs.laws.CarryLaws.{left, carried, fill_carried, wanting_wants, fill_wants, fill_broken, fill_frame, fill_front, fill_whole}
-use Rattle.laws.specs.Held.{Held}
 use Rattle.framing.specs.Flaw.{flaw_of}
 use Rattle.framing.specs.declared.flaw.Flaw.{Flaw}
 use Rattle.framing.specs.declared.frame.Frame.{Frame}
@@ -74,21 +73,21 @@ read_some s h = by (cut_at s) refl
 
 -- a tail that wants no more ends the reading, whatever it holds
 ended : Stream → Totals → Stream
-ended st t = record { totals = t; carry = carry_of []; over = true; given = st.given; refused = st.refused }
+ended st t = record { totals = t; carry = carry_of []; over = true; refused = st.refused }
 
 rested_over : (st : Stream) (t : Totals) (rest : List ℕ) → wants_more rest ≡ false → rested_of st t rest ≡ ended st t
 unfolding ended
 rested_over st t rest w =
-    ap (λ b. record { totals = t; carry = carry_of (pick b rest []); over = not b; given = st.given; refused = st.refused }) w
+    ap (λ b. record { totals = t; carry = carry_of (pick b rest []); over = not b; refused = st.refused }) w
 
 -- what `rest` answers, by its test
 pub rested_wants : (st : Stream) (t : Totals) (rest : List ℕ) → wants_more rest ≡ true →
-    record { totals = t; carry = carry_of rest; over = false; given = st.given; refused = st.refused } ≡ rested_of st t rest
+    record { totals = t; carry = carry_of rest; over = false; refused = st.refused } ≡ rested_of st t rest
 rested_wants st t rest w =
-    sym (ap (λ b. record { totals = t; carry = carry_of (pick b rest []); over = not b; given = st.given; refused = st.refused }) w)
+    sym (ap (λ b. record { totals = t; carry = carry_of (pick b rest []); over = not b; refused = st.refused }) w)
 
 pub rested_ends : (st : Stream) (t : Totals) (rest : List ℕ) → wants_more rest ≡ false →
-    record { totals = t; carry = carry_of []; over = true; given = st.given; refused = st.refused } ≡ rested_of st t rest
+    record { totals = t; carry = carry_of []; over = true; refused = st.refused } ≡ rested_of st t rest
 unfolding ended
 rested_ends st t rest w = sym (rested_over st t rest w)
 
@@ -213,11 +212,10 @@ onward_records (f ∷ fs) t n e =
 
 -- what is left over after all is what was not read
 cut_tail : (st : Stream) (t : Totals) (rest : List ℕ) → cut_of (rested_of st t rest) ≡ ltb 0 (length rest)
-unfolding carry_of
 cut_tail st t rest = by (wants_more rest) refl
   where
-    by : (w : Bool) → wants_more rest ≡ w → pick (not w) true (ltb 0 (carry_of (pick w rest [])).len) ≡ ltb 0 (length rest)
-    by true w = refl
+    by : (w : Bool) → wants_more rest ≡ w → pick (not w) true (ltb 0 (length (carried_of (carry_of (pick w rest []))))) ≡ ltb 0 (length rest)
+    by true w = ap (λ s. ltb 0 (length s)) (carried rest)
     by false w = sym (some rest w)
       where
         some : (l : List ℕ) → wants_more l ≡ false → ltb 0 (length l) ≡ true
@@ -247,30 +245,36 @@ feed_run p log = by (sound_panel p)
         ap (λ r. record { panel = p; counts = replicate count_places 0; records = r; cut = false; refused = true })
         (onward_records (frames log) (started stand_in) 0 refl ∙ ap capped n)
 
+-- what is gathered with the bytes that wait
+pub gathers : (st : Stream) (part : List ℕ) (w : Carry) (f : Filled) → w ≡ carry_of (waiting_bytes st) → f ≡ filled_of (carried_of w) part →
+    f ≡ filled_of (waiting_bytes st) part
+gathers st part w f e g = g ∙ ap (λ x. filled_of (carried_of x) part) e ∙ ap (λ x. filled_of x part) (carried (waiting_bytes st))
+
+-- what wants more is kept whole
+pub keeps_wanting : (rest : List ℕ) → wants_more rest ≡ true → carry_of (take room rest) ≡ carry_of rest
+keeps_wanting rest w = ap carry_of (take_all room rest (omega (arith, wants_few rest w)))
+
 -- what `feed` has in hand once it has filled the carry: the bytes then carried, and how many of the part's they took
 pub record Fed (st : Stream) (part v : List ℕ) (taken : ℕ) : Type 0 where
   pub carries : v ≡ filled (waiting_bytes st) part
   pub takes : taken ≡ length (more (waiting_bytes st) part)
   pub within : taken ≤ length part
 
-pub has_fed : (st : Stream) (part : List ℕ) (w : Carry) (f : Filled) (h : ℕ) → w ≡ carry_of (waiting_bytes st) → f ≡ filled_of (carried_of w) part →
-    Held room f.carry.bytes f.carry.len h → Fed st part (take h f.carry.bytes) f.taken
+pub has_fed : (st : Stream) (part : List ℕ) (f : Filled) (held : List ℕ) → f ≡ filled_of (waiting_bytes st) part → held ≡ carried_of f.carry →
+    Fed st part held f.taken
 unfolding topped_of
-has_fed st part w f h e g k =
-    let q = g ∙ ap (λ x. filled_of (carried_of x) part) e ∙ ap (λ x. filled_of x part) (carried (waiting_bytes st)) in
+has_fed st part f held q k =
     let t = ap (λ (x : Filled). x.taken) q in
     record {
-      carries = k.is ∙ ap (λ (x : Filled). carried_of x.carry) q ∙ fill_carried (waiting_bytes st) part;
+      carries = k ∙ ap (λ (x : Filled). carried_of x.carry) q ∙ fill_carried (waiting_bytes st) part;
       takes = t;
       within = omega (arith, t, length-take (reach (waiting_bytes st ++ part) - length (waiting_bytes st)) part);
     }
 
 -- what `front` reads off the carry once it is filled
-pub front_read : (st : Stream) (part : List ℕ) (w : Carry) (f : Filled) (frame : Frame) (flaw : Flaw) →
-    w ≡ carry_of (waiting_bytes st) → f ≡ filled_of (carried_of w) part → frame ≡ frame_of (carried_of f.carry) → flaw ≡ flaw_of (carried_of f.carry) →
-    record { frame = frame; flaw = flaw } ≡ front_of st part
-front_read st part w f frame flaw e g h k =
-    let q = g ∙ ap (λ x. filled_of (carried_of x) part) e ∙ ap (λ x. filled_of x part) (carried (waiting_bytes st)) in
+pub front_read : (st : Stream) (part : List ℕ) (f : Filled) (frame : Frame) (flaw : Option Flaw) → f ≡ filled_of (waiting_bytes st) part →
+    frame ≡ frame_of (carried_of f.carry) → flaw ≡ flaw_of (carried_of f.carry) → record { frame = frame; flaw = flaw } ≡ front_of st part
+front_read st part f frame flaw q h k =
     let v = ap (λ (x : Filled). carried_of x.carry) q ∙ fill_carried (waiting_bytes st) part in
     rw (h ∙ ap frame_of v, k ∙ ap flaw_of v)
 

@@ -1,5 +1,5 @@
 -- Which places are written: the bits of a sound panel, and each clause of what a record does to them, by the chip's own laws.
-use Rattle.std.specs.Prelude.{ℕ, ◌%◌, ◌<◌, ◌≡◌, refl, Bool, true, false, not, List}
+use Rattle.std.specs.Prelude.{ℕ, ◌%◌, ◌<◌, ◌≡◌, refl, Bool, true, false, List, Ok, Err}
 use Rattle.std.proofs.Common.{sym, ap, ◌∙◌, arith}
 use Rattle.laws.specs.Pick.{pick}
 use Rattle.laws.specs.Bit.{bit, one}
@@ -22,17 +22,17 @@ use Rattle.mirror.specs.laws.TypedLaws.{proper_lasts}
 use Rattle.mirror.specs.laws.CarriedLaws.{carried_sheet, reset_sheet}
 use Rattle.mirror.specs.laws.RecordKeeps.{untaken_keeps}
 use Rattle.mirror.specs.declared.panel.Panel.{Panel}
-use Rattle.mirror.specs.declared.written.PlacesWritten.TheVariants.{Bits, Unsound}
+use Rattle.mirror.specs.declared.answer.Refusal.TheVariants.{Unsound}
 
 -- the bits that a sound panel keeps
 pub bits_walk : (p : Panel) → sound_panel p ≡ true → p.sheet.registers.written ≡ walk_of p
 bits_walk p e = (parts p e).sheet.written
 
 -- what the call answers, by the test that it makes
-pub tells_refused : (p : Panel) → sound_panel p ≡ false → Tells p Unsound
+pub tells_refused : (p : Panel) → sound_panel p ≡ false → Tells p (Err Unsound)
 tells_refused p e = record { told = rw e; paper = rw e }
 
-pub tells_kept : (p : Panel) → sound_panel p ≡ true → Tells p (Bits p.sheet.registers.written)
+pub tells_kept : (p : Panel) → sound_panel p ≡ true → Tells p (Ok p.sheet.registers.written)
 tells_kept p e = record { told = rw (e, bits_walk p e); paper = rw (e, bits_walk p e) }
 
 pub sound_bits : (p : Panel) → sound_panel p ≡ true → Agree p

@@ -1,6 +1,6 @@
 -- What the answers of a comparison mean.
 use Prim.Native.Nat.{ℕ, zero, suc, ◌+◌}
-use Rattle.std.specs.Prelude.{◌≡◌, Bool, true, not, List, eqb, length}
+use Rattle.std.specs.Prelude.{◌≡◌, Bool, true, not, List, eqb, length, Some, None, Ok, Err}
 use Rattle.std.proofs.Math.Path.{refl, subst, ap}
 use Rattle.std.proofs.Common.{ap₂, ◌∙◌, arith}
 use Rattle.std.proofs.Math.Bool.{false}
@@ -13,12 +13,11 @@ use Rattle.dots.specs.First.{first, first_dot}
 use Rattle.dots.specs.laws.FirstLaws.{first_dot_says}
 use Rattle.chip.specs.Sizes.{is_known}
 use Rattle.picture.specs.Frame.{glass}
-use Rattle.picture.specs.Compare.{Compares, compare_paper, differ, place_for, compared_of, FirstDifference, SameDots, Means}
-use Rattle.picture.specs.declared.compare.Compared.{Compared}
-use Rattle.picture.specs.declared.compare.Compared.TheVariants.{At, Same, Size, Unknown}
+use Rattle.picture.specs.Compare.{Compared, Compares, compare_paper, differ, differs_at, place_for, compared_of, FirstDifference, SameDots, Means}
+use Rattle.mirror.specs.declared.answer.Refusal.TheVariants.{Size, Unsound}
 
 module _ (chip : ℕ) (a b : List ℕ) (known : is_known chip ≡ true) (la : length a ≡ (glass chip).size) (lb : length b ≡ (glass chip).size) where
-  sized : compared_of chip a b ≡ first_dot (differ chip a b) At Same (glass chip).cols 0 (glass chip).rows
+  sized : compared_of chip a b ≡ first_dot (differ chip a b) differs_at (Ok None) (glass chip).cols 0 (glass chip).rows
   sized = rw (known, eq-eqb (length a) (glass chip).size la, eq-eqb (length b) (glass chip).size lb)
 
   -- the answer is the first difference where it names a place; it says none only where every dot is equal; it is no refusal
@@ -26,7 +25,7 @@ module _ (chip : ℕ) (a b : List ℕ) (known : is_known chip ≡ true) (la : le
   unfolding Means
   compared_means =
       rw sized
-      (first_dot_says (differ chip a b) At Same (glass chip).cols (Means chip a b) 0 (glass chip).rows
+      (first_dot_says (differ chip a b) differs_at (Ok None) (glass chip).cols (Means chip a b) 0 (glass chip).rows
       (λ r x _ p q e before. record {
         row_in = omega arith;
         column_in = q;
@@ -39,27 +38,26 @@ module _ (chip : ℕ) (a b : List ℕ) (known : is_known chip ≡ true) (la : le
       same i y e = eqb-true (dot (glass chip) a i y) (dot (glass chip) b i y) (not-false (eqb (dot (glass chip) a i y) (dot (glass chip) b i y)) e)
 
   -- a place that is named is the first difference
-  pub at_first : (r x : ℕ) → compared_of chip a b ≡ At r x → FirstDifference chip a b r x
+  pub at_first : (r x : ℕ) → compared_of chip a b ≡ differs_at r x → FirstDifference chip a b r x
   unfolding Means
   at_first r x e = subst (Means chip a b) e compared_means
 
   -- none is said exactly where every dot is equal
-  pub same_equal : compared_of chip a b ≡ Same → SameDots chip a b
+  pub same_equal : compared_of chip a b ≡ Ok None → SameDots chip a b
   unfolding Means
   same_equal e = subst (Means chip a b) e compared_means
 
-  pub equal_same : SameDots chip a b → compared_of chip a b ≡ Same
+  pub equal_same : SameDots chip a b → compared_of chip a b ≡ Ok None
   unfolding Means
   equal_same e = by (compared_of chip a b) compared_means
     where
-      by : (c : Compared) → Means chip a b c → c ≡ Same
-      by (At r x) m = absurd (m.differs (e r x m.row_in m.column_in))
-      by Same m = refl
-      by Size m = absurd m
-      by Unknown m = absurd m
+      by : (c : Compared) → Means chip a b c → c ≡ Ok None
+      by (Ok (Some d)) m = absurd (m.differs (e d.row d.column m.row_in m.column_in))
+      by (Ok None) m = refl
+      by (Err refusal) m = absurd m
 
   -- every bit of the frame is some dot's, so the frames are then the same bytes
-  pub same_frames : compared_of chip a b ≡ Same → Bytes a → Bytes b → a ≡ b
+  pub same_frames : compared_of chip a b ≡ Ok None → Bytes a → Bytes b → a ≡ b
   same_frames e ba bb = same_bytes (glass chip) (λ _ _ _ _. refl) a b la lb ba bb (same_equal e)
 
 -- what is said of the first place is said of the place alone
@@ -87,16 +85,16 @@ pub compares : (chip : ℕ) (a b : List ℕ) (answer : Compared) → answer ≡ 
 compares chip a b answer e = record {
   told = e;
   paper = ap compare_paper e ∙ by (not (is_known chip)) (not (eqb (length a) (glass chip).size)) (not (eqb (length b) (glass chip).size))
-      (first_dot (differ chip a b) At Same (glass chip).cols 0 (glass chip).rows)
-      (first_dot_says (differ chip a b) At Same (glass chip).cols (λ c. (compare_paper c).number ≡ none) 0 (glass chip).rows (λ _ _ _ _ _ _ _. refl) (λ _. refl))
-      (first_dot_said (λ c. (compare_paper c).place) (differ chip a b) At Same (glass chip).cols 0 (glass chip).rows);
+      (first_dot (differ chip a b) differs_at (Ok None) (glass chip).cols 0 (glass chip).rows)
+      (first_dot_says (differ chip a b) differs_at (Ok None) (glass chip).cols (λ c. (compare_paper c).number ≡ none) 0 (glass chip).rows (λ _ _ _ _ _ _ _. refl) (λ _. refl))
+      (first_dot_said (λ c. (compare_paper c).place) (differ chip a b) differs_at (Ok None) (glass chip).cols 0 (glass chip).rows);
 }
   where
     number : Bool → Bool → Bool → Option ℕ
     number u p q = pick u (some 10) (pick p (some 9) (pick q (some 9) none))
 
     by : (u p q : Bool) (c : Compared) → (compare_paper c).number ≡ none → (compare_paper c).place ≡ place_for none chip a b
-        → compare_paper (pick u Unknown (pick p Size (pick q Size c))) ≡ record { number = number u p q; place = place_for (number u p q) chip a b }
+        → compare_paper (pick u (Err Unsound) (pick p (Err Size) (pick q (Err Size) c))) ≡ record { number = number u p q; place = place_for (number u p q) chip a b }
     by true p q c h k = refl
     by false true q c h k = refl
     by false false true c h k = refl
@@ -104,10 +102,6 @@ compares chip a b answer e = record {
 
 -- a refused comparison names no place
 pub refused_nowhere : (c : Compared) (n : ℕ) → (compare_paper c).number ≡ some n → (compare_paper c).place ≡ none
-refused_nowhere (At r x) n e = absurd (none_some e)
-  where
-    none_some : none ≡ some n → ⊥
-    none_some e = let z : ◌≡◌ {A = ℕ} 0 1 = cc in omega arith
-refused_nowhere Same n e = refl
-refused_nowhere Size n e = refl
-refused_nowhere Unknown n e = refl
+refused_nowhere (Ok (Some d)) n e = cc
+refused_nowhere (Ok None) n e = refl
+refused_nowhere (Err refusal) n e = refl

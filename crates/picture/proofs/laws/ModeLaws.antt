@@ -18,8 +18,7 @@ use Rattle.mirror.specs.declared.panel.Panel.{Panel}
 use Rattle.picture.specs.Frame.{glass}
 use Rattle.picture.specs.Mode.{mode_b, row_turn, column_turn, glass_in, glass_for, upright_of}
 use Rattle.picture.specs.Picture.{lit}
-use Rattle.picture.specs.Paint.{glass_of, paint_paper, painted_of, frame_after}
-use Rattle.picture.specs.declared.paint.Painted.{Painted}
+use Rattle.picture.specs.Paint.{Painted, glass_of, paint_paper, painted_of, frame_after}
 use Rattle.picture.proofs.laws.PaintLaws.{painted_dots}
 use Rattle.picture.proofs.laws.PictureLaws.{function_unseen}
 

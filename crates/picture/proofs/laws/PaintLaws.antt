@@ -1,5 +1,5 @@
 -- The cells painted on a blank frame are the frame of the lit dots, and its ones are their number.
-use Rattle.std.specs.Prelude.{ℕ, ◌+◌, ◌*◌, ◌<◌, ◌≡◌, refl, Bool, true, false, not, List, eqb, length, replicate}
+use Rattle.std.specs.Prelude.{ℕ, ◌+◌, ◌*◌, ◌<◌, ◌≡◌, refl, Bool, true, false, not, List, eqb, length, replicate, Ok, Err}
 use Rattle.std.proofs.Common.{ap, ◌∙◌, arith, eq-eqb, ne_eqb}
 use Rattle.std.proofs.Math.Option.{Option, none, some}
 use Rattle.std.proofs.lemmas.Bool.{lt-leb}
@@ -19,10 +19,10 @@ use Rattle.picture.specs.Mode.{mode_b, row_turn, column_turn, glass_for}
 use Rattle.chip.specs.Sizes.{lines_of, positions}
 use Rattle.picture.specs.Picture.{lit}
 use Rattle.picture.specs.engine.Shown.{page_dot, page_put}
+use Rattle.picture.specs.engine.Wiring.{wiring_of}
 use Rattle.picture.proofs.laws.ShownLaws.{shown_lit}
-use Rattle.picture.specs.Paint.{Paints, glass_of, paint_paper, dots_for, painted_of, frame_after}
-use Rattle.picture.specs.declared.paint.Painted.{Painted}
-use Rattle.picture.specs.declared.paint.Painted.TheVariants.{Lit, Size, Unsound}
+use Rattle.picture.specs.Paint.{Painted, Paints, glass_of, paint_paper, dots_for, painted_of, frame_after}
+use Rattle.mirror.specs.declared.answer.Refusal.TheVariants.{Size, Unsound}
 
 module _ (s : Sheet) (font : List ℕ) (dark : Bool) where
   abbrev own : Landing
@@ -35,9 +35,9 @@ module _ (s : Sheet) (font : List ℕ) (dark : Bool) where
       → page_dot s font dark l p i c ≡ one (lit s font dark (l * tall + i) (p * wide + c))
   dots l p i c hl hp hi hc = shown_lit s font dark l p i c hi hc
 
-  pub page_painted : (f after : List ℕ) → f ≡ replicate own.size 0 → after ≡ page_put s font dark f → after ≡ dots_frame own (lit s font dark)
+  pub page_painted : (f after : List ℕ) → f ≡ replicate own.size 0 → after ≡ page_put (wiring_of s.registers) s font dark f → after ≡ dots_frame own (lit s font dark)
   page_painted f after e P =
-      P ∙ ap (page_put s font dark) e
+      P ∙ ap (page_put (wiring_of s.registers) s font dark) e
       ∙ page_frame own (lit s font dark) tall wide positions count refl refl (page_dot s font dark) dots
 
 module _ (panel : Panel) (font : List ℕ) (dark : Bool) (frame : List ℕ) where
@@ -53,7 +53,7 @@ module _ (panel : Panel) (font : List ℕ) (dark : Bool) (frame : List ℕ) wher
       number : Bool → Bool → Bool → Option ℕ
       number p q t = pick p (some 10) (pick q (some 9) (pick t (some 9) none))
 
-      by : (p q t : Bool) → paint_paper (pick p Unsound (pick q Size (pick t Size (Lit (dots_for none panel font dark)))))
+      by : (p q t : Bool) → paint_paper (pick p (Err Unsound) (pick q (Err Size) (pick t (Err Size) (Ok (dots_for none panel font dark)))))
           ≡ record { number = number p q t; dots = dots_for (number p q t) panel font dark }
       by true q t = refl
       by false true t = refl
@@ -61,36 +61,36 @@ module _ (panel : Panel) (font : List ℕ) (dark : Bool) (frame : List ℕ) wher
       by false false false = refl
 
   -- the ways out of a painting
-  pub paints_unsound : not (sound_panel panel) ≡ true → Paints panel font dark frame Unsound frame
-  paints_unsound u = paints Unsound frame (rw u) (rw u)
+  pub paints_unsound : not (sound_panel panel) ≡ true → Paints panel font dark frame (Err Unsound) frame
+  paints_unsound u = paints (Err Unsound) frame (rw u) (rw u)
 
-  pub paints_font : not (sound_panel panel) ≡ false → (length font ≡ font_size → ⊥) → Paints panel font dark frame Size frame
-  paints_font u f = paints Size frame (rw (u, ne_eqb (length font) font_size f)) (rw (u, ne_eqb (length font) font_size f))
+  pub paints_font : not (sound_panel panel) ≡ false → (length font ≡ font_size → ⊥) → Paints panel font dark frame (Err Size) frame
+  paints_font u f = paints (Err Size) frame (rw (u, ne_eqb (length font) font_size f)) (rw (u, ne_eqb (length font) font_size f))
 
   module _ (u : not (sound_panel panel) ≡ false) (f : length font ≡ font_size) where
-    pub paints_size : (length frame ≡ (glass_of panel).size → ⊥) → Paints panel font dark frame Size frame
+    pub paints_size : (length frame ≡ (glass_of panel).size → ⊥) → Paints panel font dark frame (Err Size) frame
     paints_size g =
-        paints Size frame
+        paints (Err Size) frame
         (rw (u, eq-eqb (length font) font_size f, ne_eqb (length frame) (glass_of panel).size g))
         (rw (u, eq-eqb (length font) font_size f, ne_eqb (length frame) (glass_of panel).size g))
 
     pub paints_lines : length frame ≡ (glass_of panel).size → (blank after : List ℕ) (n : ℕ) → blank ≡ replicate (glass_of panel).size 0
-        → after ≡ page_put panel.sheet font dark blank → n ≡ ones_of after → Paints panel font dark frame (Lit n) after
+        → after ≡ page_put (wiring_of panel.sheet.registers) panel.sheet font dark blank → n ≡ ones_of after → Paints panel font dark frame (Ok n) after
     paints_lines g blank after n e P counted =
         let painted = page_painted panel.sheet font dark blank after e P in
-        paints (Lit n) after
+        paints (Ok n) after
         (rw (u, eq-eqb (length font) font_size f, eq-eqb (length frame) (glass_of panel).size g)
-        (ap Lit (counted ∙ ap ones_of painted ∙ ones_frame (glass_of panel) (lit panel.sheet font dark))))
+        (ap Ok (counted ∙ ap ones_of painted ∙ ones_frame (glass_of panel) (lit panel.sheet font dark))))
         (rw (u, eq-eqb (length font) font_size f, eq-eqb (length frame) (glass_of panel).size g) painted)
 
   -- whatever holds of the two refusals, with the frame as it was, and of the painting, holds
-  pub painting_is : (P : Painted → List ℕ → Type 0) → P Unsound frame → P Size frame
-      → P (Lit (count_of (glass_of panel) (lit panel.sheet font dark))) (dots_frame (glass_of panel) (lit panel.sheet font dark))
+  pub painting_is : (P : Painted → List ℕ → Type 0) → P (Err Unsound) frame → P (Err Size) frame
+      → P (Ok (count_of (glass_of panel) (lit panel.sheet font dark))) (dots_frame (glass_of panel) (lit panel.sheet font dark))
       → P (painted_of panel font dark frame) (frame_after panel font dark frame)
   painting_is P unsound size painted = by (not (sound_panel panel)) (not (eqb (length font) font_size)) (not (eqb (length frame) (glass_of panel).size))
     where
       by : (p q t : Bool)
-          → P (pick p Unsound (pick q Size (pick t Size (Lit (count_of (glass_of panel) (lit panel.sheet font dark))))))
+          → P (pick p (Err Unsound) (pick q (Err Size) (pick t (Err Size) (Ok (count_of (glass_of panel) (lit panel.sheet font dark))))))
           (pick p frame (pick q frame (pick t frame (dots_frame (glass_of panel) (lit panel.sheet font dark)))))
       by true q t = unsound
       by false true t = size

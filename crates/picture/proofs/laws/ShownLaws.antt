@@ -16,19 +16,14 @@ use Rattle.chip.specs.declared.sheet.Sheet.{Sheet}
 use Rattle.picture.specs.Pattern.{tall, wide, patterns, font_start, pattern_row, glyph_row, pattern_of, patterns_of, glyph_of, shape_of}
 use Rattle.picture.specs.Cursor.{cursor_here}
 use Rattle.picture.specs.Picture.{code_at, shape_at, cursor_row, lit}
-use Rattle.picture.specs.engine.Shown.{full, page_dot, shape_from, shown_of}
+use Rattle.picture.specs.engine.Shown.{full, page_dot, shown_of}
 
 -- the panel's own four patterns give what pattern memory does
-pub shape_from_lem : (s : Sheet) (font : List ℕ) (l p : ℕ) (own : List (List ℕ)) (code : ℕ) (rows : List ℕ)
-    → own ≡ patterns_of s.pattern → code ≡ code_at s l p → rows ≡ shape_from own font code → rows ≡ shape_at s font l p
-shape_from_lem s font l p own code rows eo ec er =
-    er ∙ ap (λ (o : List (List ℕ)). shape_from o font code) eo ∙ ap (shape_from (patterns_of s.pattern) font) ec
-    ∙ ap (λ (shape : List ℕ). pick (ltb (code_at s l p) font_start) shape (glyph_of font (code_at s l p))) (own_pattern s.pattern (code_at s l p))
-  where
-    own_pattern : (memory : List ℕ) (code : ℕ) → get_or (patterns_of memory) (code % patterns) [] ≡ pattern_of memory code
-    own_pattern memory code =
-        get_d_table (pattern_of memory) patterns (code % patterns) [] (omega arith)
-        ∙ ap (λ (n : ℕ). table (λ r. read_pattern (pattern (tall * n + r)) memory) tall) (mod-mod code patterns)
+pub own_pattern : (memory : List ℕ) (own : List (List ℕ)) (code : ℕ) → own ≡ patterns_of memory → get_or own (code % patterns) [] ≡ pattern_of memory code
+own_pattern memory own code e =
+    ap (λ (o : List (List ℕ)). get_or o (code % patterns) []) e
+    ∙ get_d_table (pattern_of memory) patterns (code % patterns) [] (omega arith)
+    ∙ ap (λ (n : ℕ). table (λ r. read_pattern (pattern (tall * n + r)) memory) tall) (mod-mod code patterns)
 
 module _ (s : Sheet) (font : List ℕ) (dark : Bool) (l p : ℕ) where
   abbrev away : Bool

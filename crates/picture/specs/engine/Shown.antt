@@ -1,21 +1,19 @@
 -- The eight rows that the painter shows at a position of a line. That their dots are the lit ones is the law `shown_lit`.
-use Rattle.std.specs.Prelude.{ℕ, ◌+◌, ◌-◌, ◌*◌, ◌%◌, ◌<◌, ◌≡◌, Bool, not, ◌&&◌, List, [], ltb, get_or, replicate, set}
+use Rattle.std.specs.Prelude.{ℕ, ◌+◌, ◌-◌, ◌*◌, ◌<◌, ◌≡◌, Bool, not, ◌&&◌, List, get_or, replicate, set}
 use Rattle.laws.specs.Pick.{pick}
 use Rattle.laws.specs.Bit.{bit}
 use Rattle.dots.specs.Landing.{Landing}
 use Rattle.dots.specs.engine.Cells.{strip, block, line, page}
 use Rattle.chip.specs.Sizes.{lines_of, positions, row_end}
 use Rattle.chip.specs.declared.sheet.Sheet.{Sheet}
-use Rattle.picture.specs.Pattern.{tall, wide, patterns, font_start, glyph_of}
+use Rattle.picture.specs.Pattern.{tall, wide}
 use Rattle.picture.specs.Cursor.{cursor_here}
 use Rattle.picture.specs.Frame.{glass}
-use Rattle.picture.specs.Mode.{glass_for}
+use Rattle.picture.specs.engine.Wiring.{wired}
+use Rattle.picture.specs.declared.mode.Wiring.{Wiring}
 use Rattle.picture.specs.Picture.{shape_at, cursor_row}
+use Rattle.picture.specs.declared.frame.Dot.{Dot}
 use Rattle.picture.specs.declared.frame.Place.{Place}
-
--- the pattern of a code, the panel's own four being at hand
-abbrev pub shape_from : List (List ℕ) → List ℕ → ℕ → List ℕ
-shape_from own font code = pick (ltb code font_start) (get_or own (code % patterns) []) (glyph_of font code)
 
 -- five dots that are all lit
 abbrev pub full : ℕ
@@ -47,11 +45,15 @@ column_put L rows r x c = strip L tall (λ i. cell_dot rows i c) r (x + c)
 abbrev pub cell_put : Landing → List ℕ → ℕ → ℕ → List ℕ → List ℕ
 cell_put L rows = block L tall wide (cell_dot rows)
 
-abbrev pub line_put : Sheet → List ℕ → Bool → ℕ → List ℕ → List ℕ
-line_put s font dark l = line (glass_for s.registers) tall wide positions (page_dot s font dark l) (l * tall)
+abbrev pub line_put : Wiring → Sheet → List ℕ → Bool → ℕ → List ℕ → List ℕ
+line_put w s font dark l = line (wired w) tall wide positions (page_dot s font dark l) (l * tall)
 
-abbrev pub page_put : Sheet → List ℕ → Bool → List ℕ → List ℕ
-page_put s font dark = page (glass_for s.registers) tall wide positions (lines_of s.registers.chip) (page_dot s font dark)
+abbrev pub page_put : Wiring → Sheet → List ℕ → Bool → List ℕ → List ℕ
+page_put w s font dark = page (wired w) tall wide positions (lines_of w.chip) (page_dot s font dark)
+
+-- the dot is one of the landing's
+abbrev pub Inside : Landing → Dot → Type 0
+Inside L at = (at.row < L.rows) × (at.column < L.cols)
 
 -- the place is where dot (r, x) of a chip's frame lands, which is inside the frame
 pub record Lands (chip r x : ℕ) (place : Place) : Type 0 where

@@ -1,32 +1,22 @@
 -- The records one by one, as `trace records` takes them.
-use Rattle.std.specs.Prelude.{◌≡◌, ℕ, ◌-◌, false, not, List, length, take, drop, replicate, ◌==◌}
+use Rattle.std.specs.Prelude.{ℕ, false, not, List, replicate, ◌==◌}
 use Rattle.mirror.specs.Answer.{number_of, count_places}
 use Rattle.mirror.specs.Table.{record_of}
 use Rattle.mirror.specs.Run.{raised, tallied}
 use Rattle.mirror.specs.declared.panel.Panel.{Panel}
 use Rattle.mirror.specs.declared.record.Recorded.{Recorded}
 use Rattle.mirror.specs.declared.stream.Run.{Run}
-use Rattle.trace.specs.declared.records.Tally.{Tally}
 
 -- before the first record
-abbrev pub tally_start : Panel → Tally
-tally_start p = record { panel = p; counts = replicate count_places 0; records = 0; ended = 0; used = 0 }
+abbrev pub run_start : Panel → Run
+run_start p = record { panel = p; counts = replicate count_places 0; records = 0; cut = false; refused = false }
 
 -- after a record: the panel that it left, and one more of its answer
-abbrev pub tally_after : Tally → Recorded → Tally
-tally_after t r = record { panel = r.panel; counts = tallied t.counts r.answer; records = raised t.records; ended = 0; used = t.used }
+abbrev pub run_after : Run → Recorded → Run
+run_after t r = record { panel = r.panel; counts = tallied t.counts r.answer; records = raised t.records; cut = t.cut; refused = t.refused }
 
--- after bytes that hold no record: the number of their answer ends the reading
-abbrev pub tally_over : Tally → List ℕ → Tally
-tally_over t tail =
-    record { panel = t.panel; counts = t.counts; records = t.records; ended = number_of (record_of t.panel tail).answer; used = t.used }
-
--- the run: cut where an answer ended the reading
-abbrev pub tally_run : Tally → Run
-tally_run t = record { panel = t.panel; counts = t.counts; records = t.records; cut = not (t.ended == 0); refused = false }
-
--- what stood from a place to an end stands at the front
-pub record Moved (before : List ℕ) (at end : ℕ) (after : List ℕ) (r : ℕ) : Type 0 where
-  pub many : r ≡ end - at
-  pub front : take r after ≡ take r (drop at before)
-  pub long : length after ≡ length before
+-- after bytes that hold no record: the answer to them ends the run, cut where it is not 10
+abbrev pub run_over : Run → List ℕ → Run
+run_over t tail =
+    let unsound = number_of (record_of t.panel tail).answer == 10 in
+    record { panel = t.panel; counts = t.counts; records = t.records; cut = not unsound; refused = unsound }

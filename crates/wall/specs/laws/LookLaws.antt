@@ -1,9 +1,14 @@
 -- Two pictures that are made of the same are the same, and so are the lines beneath them.
-use Rattle.std.specs.Prelude.{ℕ, ◌/◌, ◌%◌, ◌≡◌, refl, Bool, false, not, ◌&&◌, ◌||◌, List, ◌++◌, eqb, length}
+use Rattle.std.specs.Prelude.{ℕ, ◌/◌, ◌%◌, ◌≡◌, refl, Bool, false, not, ◌&&◌, ◌||◌, List, ◌++◌, Option, Some, None, eqb, length}
 use Rattle.std.proofs.Math.Path.{sym, ap}
-use Rattle.std.proofs.Common.{◌∙◌, eq-eqb, eqb-true}
+use Rattle.std.proofs.Common.{◌∙◌}
+use Rattle.std.proofs.lemmas.Bool.Decides.{Decides-and, Decides-like}
+use Rattle.std.proofs.lemmas.Slice.Eq.{bytes_eq-Decides}
+use Rattle.std.specs.Cmp.{unsigned_Decides, booleans_Decides}
+use Rattle.std.specs.Option.{option_eq}
+use Rattle.std.specs.Str.{bytes_eq}
 use Rattle.std.proofs.Math.Bool.{true}
-use Rattle.std.specs.Bool.{beq}
+use Rattle.std.specs.Bool.{Decides, beq}
 use Rattle.std.proofs.lemmas.Bool.{false≢true}
 use Rattle.std.proofs.Math.Option.{none, some}
 use Rattle.laws.specs.Pick.{pick}
@@ -22,13 +27,11 @@ use Rattle.picture.specs.Cursor.{cursor_of, line_of, position_of}
 use Rattle.picture.specs.Mode.{mode_b, glass_in, upright_of}
 use Rattle.picture.specs.Picture.{codes_of, pattern_dot, cursor_row, lit}
 use Rattle.picture.specs.Paint.{frame_after}
-use Rattle.picture.specs.declared.cursor.Cursor.{Cursor}
-use Rattle.picture.specs.declared.cursor.Cursor.TheVariants.{Off, At}
+use Rattle.picture.specs.declared.cursor.Spot.{Spot}
 use Rattle.picture.proofs.laws.ModeLaws.{upright_mode, upright_sound}
 use Rattle.wall.specs.Beneath.{cursor_line, picture_bytes, shown_lines}
 use Rattle.wall.specs.Draw.{drawing_bytes, drawn_panel}
 use Rattle.wall.specs.Look.{Alike, look_of}
-use Rattle.wall.specs.engine.Look.{same_bits, same_place}
 use Rattle.wall.specs.Written.{written_bytes, written_line}
 use Rattle.wall.specs.declared.look.Look.{Look}
 
@@ -42,22 +45,25 @@ sheet_of k =
     }
 
 -- the cursor's line and position, 0 where none is shown
-abbrev line_in : Cursor → ℕ
-line_in Off = 0
-line_in (At l p) = l
+abbrev line_in : Option Spot → ℕ
+line_in None = 0
+line_in (Some spot) = spot.line
 
-abbrev position_in : Cursor → ℕ
-position_in Off = 0
-position_in (At l p) = p
+abbrev position_in : Option Spot → ℕ
+position_in None = 0
+position_in (Some spot) = spot.position
 
 -- the lit dots, from D, C and B, the dots of the patterns and the cursor's place
 abbrev dots_of : Bool → Bool → Bool → (ℕ → ℕ → Bool) → ℕ → ℕ → Bool → ℕ → ℕ → Bool
 dots_of on cursor blink dots l p dark r x =
     on && (dots r x || (cursor && (eqb (r / tall) l && eqb (x / wide) p) && eqb (r % tall) cursor_row) || (blink && dark && (eqb (r / tall) l && eqb (x / wide) p)))
 
+abbrev spot_at : ℕ → ℕ → Spot
+spot_at l p = record { line = l; position = p }
+
 -- the place has no say where no cursor is shown
 hidden : (on cursor blink : Bool) (dots : ℕ → ℕ → Bool) (l p : ℕ) (dark : Bool) →
-    dots_of on cursor blink dots (line_in (pick (on && (cursor || blink)) (At l p) Off)) (position_in (pick (on && (cursor || blink)) (At l p) Off)) dark
+    dots_of on cursor blink dots (line_in (pick (on && (cursor || blink)) (Some (spot_at l p)) None)) (position_in (pick (on && (cursor || blink)) (Some (spot_at l p)) None)) dark
     ≡ dots_of on cursor blink dots l p dark
 hidden false cursor blink dots l p dark = refl
 hidden true true blink dots l p dark = refl
@@ -150,81 +156,50 @@ same_look a b c s o u l t p d m =
     made a.chip b.chip a.shift b.shift a.on b.on a.cursor b.cursor a.blink b.blink a.turned b.turned a.place b.place
     a.display b.display a.pattern b.pattern c s o u l t p d m
   where
-    of : ℕ → ℕ → Bool → Bool → Bool → Bool → Cursor → List ℕ → List ℕ → Look
+    of : ℕ → ℕ → Bool → Bool → Bool → Bool → Option Spot → List ℕ → List ℕ → Look
     of c s o u l t p d m = record { chip = c; shift = s; on = o; cursor = u; blink = l; turned = t; place = p; display = d; pattern = m }
 
-    made : (c c' s s' : ℕ) (o o' u u' l l' t t' : Bool) (p p' : Cursor) (d d' m m' : List ℕ) → c ≡ c' → s ≡ s' → o ≡ o' → u ≡ u' → l ≡ l' → t ≡ t' →
+    made : (c c' s s' : ℕ) (o o' u u' l l' t t' : Bool) (p p' : Option Spot) (d d' m m' : List ℕ) → c ≡ c' → s ≡ s' → o ≡ o' → u ≡ u' → l ≡ l' → t ≡ t' →
         p ≡ p' → d ≡ d' → m ≡ m' → of c s o u l t p d m ≡ of c' s' o' u' l' t' p' d' m'
     made c c' s s' o o' u u' l l' t t' p p' d d' m m' e₁ e₂ e₃ e₄ e₅ e₆ e₇ e₈ e₉ = rw (e₁, e₂, e₃, e₄, e₅, e₆, e₇, e₈, e₉) refl
 
--- D, C, B and the mode
-and_first : (a b : Bool) → (a && b) ≡ true → a ≡ true
-and_first true b e = refl
-and_first false b e = absurd (false≢true e)
+-- two places are found the same exactly where they are equal
+abbrev spots : Spot → Spot → Bool
+spots a b = eqb a.line b.line && eqb a.position b.position
 
-and_second : (a b : Bool) → (a && b) ≡ true → b ≡ true
-and_second true b e = e
-and_second false b e = absurd (false≢true e)
+spot_of_parts : (a b : Spot) → a.line ≡ b.line → a.position ≡ b.position → a ≡ b
+spot_of_parts a b l p = rw (l, p) refl
 
-same_bit : (a b : Bool) → beq a b ≡ true → a ≡ b
-same_bit true true e = refl
-same_bit true false e = absurd (false≢true e)
-same_bit false true e = absurd (false≢true e)
-same_bit false false e = refl
+spots_same : (a b : Spot) → Decides (spots a b) (a ≡ b)
+spots_same a b =
+    Decides-like (spots a b) (λ p. spot_of_parts a b p.0 p.1) (λ e. rw e (refl, refl))
+    (Decides-and _ _ (unsigned_Decides a.line b.line) (unsigned_Decides a.position b.position))
 
--- a cursor's place is found the same exactly where it is equal
-pub place_same : (a b : Cursor) → same_place a b ≡ true → a ≡ b
-place_same Off Off e = refl
-place_same Off (At l p) e = absurd (false≢true e)
-place_same (At l p) Off e = absurd (false≢true e)
-place_same (At l p) (At m q) e =
-    ap (λ (n : ℕ). At n p) (eqb-true l m (and_first (eqb l m) (eqb p q) e)) ∙ ap (λ (n : ℕ). At m n) (eqb-true p q (and_second (eqb l m) (eqb p q) e))
+places_same : (a b : Option Spot) → Decides (option_eq spots a b) (a ≡ b)
+places_same None None = (λ e. refl, λ e. refl)
+places_same None (Some b) = (λ e. absurd (false≢true e), λ e. cc)
+places_same (Some a) None = (λ e. absurd (false≢true e), λ e. cc)
+places_same (Some a) (Some b) = Decides-like (spots a b) (λ e. ap Some e) (λ e. cc) (spots_same a b)
 
-place_itself : (a : Cursor) → same_place a a ≡ true
-place_itself Off = refl
-place_itself (At l p) = rw (eq-eqb l l refl, eq-eqb p p refl) refl
+-- and so are two looks
+abbrev pub looks : Look → Look → Bool
+looks a b =
+    eqb a.chip b.chip && (eqb a.shift b.shift && (beq a.on b.on && (beq a.cursor b.cursor && (beq a.blink b.blink && (beq a.turned b.turned
+    && (option_eq spots a.place b.place && (bytes_eq a.display b.display && bytes_eq a.pattern b.pattern)))))))
 
-pub same_place_lem : (a b : Cursor) → a ≡ b → same_place a b ≡ true
-same_place_lem a b e = ap (λ (c : Cursor). same_place a c) (sym e) ∙ place_itself a
+looks_same : (a b : Look) → Decides (looks a b) (a ≡ b)
+looks_same a b =
+    Decides-like (looks a b)
+    (λ p. same_look a b p.0 p.1.0 p.1.1.0 p.1.1.1.0 p.1.1.1.1.0 p.1.1.1.1.1.0 p.1.1.1.1.1.1.0 p.1.1.1.1.1.1.1.0 p.1.1.1.1.1.1.1.1)
+    (λ e. rw e (refl, (refl, (refl, (refl, (refl, (refl, (refl, (refl, refl)))))))))
+    (Decides-and _ _ (unsigned_Decides a.chip b.chip)
+    (Decides-and _ _ (unsigned_Decides a.shift b.shift)
+    (Decides-and _ _ (booleans_Decides a.on b.on)
+    (Decides-and _ _ (booleans_Decides a.cursor b.cursor)
+    (Decides-and _ _ (booleans_Decides a.blink b.blink)
+    (Decides-and _ _ (booleans_Decides a.turned b.turned)
+    (Decides-and _ _ (places_same a.place b.place)
+    (Decides-and _ _ (bytes_eq-Decides a.display b.display) (bytes_eq-Decides a.pattern b.pattern)))))))))
 
--- and so are the bits
-pub record BitsSame (a b : Look) : Type 0 where
-  pub on : a.on ≡ b.on
-  pub cursor : a.cursor ≡ b.cursor
-  pub blink : a.blink ≡ b.blink
-  pub turned : a.turned ≡ b.turned
-
-pub bits_same : (a b : Look) → same_bits a b ≡ true → BitsSame a b
-bits_same a b e =
-    let o = beq a.on b.on in
-    let c = beq a.cursor b.cursor in
-    let l = beq a.blink b.blink in
-    let t = beq a.turned b.turned in
-    let e₁ = and_first (o && c && l) t e in
-    let e₂ = and_first (o && c) l e₁ in
-    record {
-      on = same_bit _ _ (and_first o c e₂);
-      cursor = same_bit _ _ (and_second o c e₂);
-      blink = same_bit _ _ (and_second (o && c) l e₁);
-      turned = same_bit _ _ (and_second (o && c && l) t e);
-    }
-
-bit_itself : (a : Bool) → beq a a ≡ true
-bit_itself true = refl
-bit_itself false = refl
-
-bits_itself : (a : Look) → same_bits a a ≡ true
-bits_itself a = rw (bit_itself a.on, bit_itself a.cursor, bit_itself a.blink, bit_itself a.turned) refl
-
-pub same_bits_lem : (a b : Look) → a ≡ b → same_bits a b ≡ true
-same_bits_lem a b e = ap (λ (c : Look). same_bits a c) (sym e) ∙ bits_itself a
-
--- what a test that was left found
-pub found : (x : Bool) → not x ≡ false → x ≡ true
-found true e = refl
-found false e = absurd (false≢true (sym e))
-
--- two that differ in something
-pub unlike : (a b : Look) (x : Bool) → not x ≡ true → (a ≡ b → x ≡ true) → Alike a b false
-unlike a b true n e = absurd (false≢true n)
-unlike a b false n e = record { same = λ f. absurd (false≢true f); told = e }
+pub alike_looks : (a b : Look) (r : Bool) → r ≡ looks a b → Alike a b r
+alike_looks a b r e = record { same = (λ t. (looks_same a b).0 (sym e ∙ t)); told = (λ f. e ∙ (looks_same a b).1 f) }

@@ -1,4 +1,5 @@
+use Rattle.std.proofs.Common.{◌-◌}
 use Rattle.desk.proofs.arguments.read_groups.Given as goal
 
-abbrev pub decreases-loop-turns : goal.decreases-loop-turns
-decreases-loop-turns l = l.turns
+abbrev pub decreases-loop-next : goal.decreases-loop-next
+decreases-loop-next l = l.count - l.next

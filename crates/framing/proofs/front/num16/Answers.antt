@@ -4,4 +4,4 @@ use Rattle.framing.proofs.front.num16.Goals as goal
 
 pub returns : goal.returns
 unfolding num16
-returns c = record { is = omega arith; small = omega arith }
+returns c = omega (arith, c.from_le_bytes.ensures)

@@ -1,6 +1,6 @@
-use Rattle.std.proofs.Common.{arith}
-use Rattle.dots.specs.laws.TableLaws.{fill_end}
+use Rattle.std.proofs.Common.{rules}
+use Rattle.dots.specs.laws.TableLaws.{made_table}
 use Rattle.picture.proofs.pattern.glyph.Goals as goal
 
 pub returns : goal.returns
-returns c = fill_end _ _ _ _ c.loop-r.invariant (omega arith)
+returns c = made_table _ _ _ _ 0 _ c.from_fn.ensures.items (λ k y q p h. search rules)

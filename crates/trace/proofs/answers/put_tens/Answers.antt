@@ -1,6 +1,6 @@
-use Rattle.std.proofs.Common.{lt-ltb}
+use Rattle.std.proofs.Common.{◌<◌, lt-ltb, arith}
 use Rattle.desk.specs.laws.PageLaws.{puts_none}
 use Rattle.trace.proofs.answers.put_tens.Goals as goal
 
-pub returns-then-number-lt10 : goal.returns-then-number-lt10
-returns-then-number-lt10 c = rw (lt-ltb _ _ c.if-number-lt10.true) (puts_none _ _)
+pub returns-else-number-ge10 : goal.returns-else-number-ge10
+returns-else-number-ge10 c = let one_digit : c.args.number < 10 = omega arith in rw (lt-ltb _ _ one_digit) (puts_none _)

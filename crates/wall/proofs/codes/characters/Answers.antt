@@ -1,12 +1,6 @@
-use Rattle.std.proofs.Common.{refl, arith}
-use Rattle.dots.specs.laws.TableLaws.{fill_start, fill_step, fill_end}
+use Rattle.std.proofs.Common.{rules}
+use Rattle.dots.specs.laws.TableLaws.{is_table}
 use Rattle.wall.proofs.codes.characters.Goals as goal
 
-pub loop-at-init : goal.loop-at-init
-loop-at-init c = fill_start _ _ _ refl
-
-pub loop-at-preserved : goal.loop-at-preserved
-loop-at-preserved c = fill_step _ _ _ _ _ c.loop-at.invariant (omega arith) c.character.ensures
-
 pub returns : goal.returns
-returns c = fill_end _ _ _ _ c.loop-at.invariant (omega arith)
+returns c = is_table _ _ _ 0 c.map.ensures.items.long (λ k p. let h = c.map.ensures.items.at k 0 0 p in search rules)

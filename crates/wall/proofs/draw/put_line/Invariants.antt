@@ -3,4 +3,6 @@ use Rattle.wall.specs.Draw.{column_bytes, strung}
 use Rattle.wall.proofs.draw.put_line.Given as goal
 
 abbrev pub invariant-loop-column : goal.invariant-loop-column
-invariant-loop-column l = Puts (strung (column_bytes l.apart l.chip l.pairs l.frame l.row) l.column) l.initial.page l.initial.end l.page l.end
+invariant-loop-column l =
+    let d = l.row.drawing in
+    Puts (strung (column_bytes d.apart d.dots.chip l.pairs d.dots.frame.now l.row.at) l.column) l.initial.page l.page

@@ -9,9 +9,9 @@ unfolding topped_of
 returns c =
     let s = carried_of c.args.self in
     let p = c.args.part.now in
-    c.topped.ensures
+    c.topped-2.ensures
     ∙ ap (λ (to : ℕ). topped_of s to p)
     (c.reach-to.ensures.is
-    ∙ ap (λ (f : Filled). reach (carried_of f.carry)) c.topped-start.ensures
+    ∙ ap (λ (f : Filled). reach (carried_of f.carry)) c.topped.ensures
     ∙ ap reach (carried (s ++ up_to 2 s p))
     ∙ reach_start s p)

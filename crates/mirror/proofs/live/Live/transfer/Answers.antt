@@ -1,38 +1,40 @@
-use Rattle.std.proofs.Common.{refl, sym, ap, ◌∙◌, ne_eqb}
-use Rattle.mirror.specs.Words.{joined_of}
-use Rattle.mirror.specs.engine.Live.{half_from, half_of, panel_of}
+use Rattle.std.proofs.Common.{sym, ◌∙◌, Some, None}
+use Rattle.mirror.specs.engine.Live.{panel_of}
 use Rattle.mirror.specs.laws.ActsLaws.{finished, rested, begun, ended}
 use Rattle.mirror.proofs.live.Live.transfer.Goals as goal
 
-pub returns-then-completes : goal.returns-then-completes
-returns-then-completes c =
+pub returns-in-Some : goal.returns-in-Some
+returns-in-Some c =
     let a = c.args in
-    let q = panel_of a.times a.self a.display.now a.pattern.now in
-    let k = a.self in
-    c.finish.ensures a.«rw» a.bus
-    ∙ finished a.time a.rs a.«rw» a.bus q k.waits k.rs k.reads k.nibble _ refl c.joined-byte.ensures (sym c.completes.ensures ∙ c.if-completes.true)
+    let t = a.t in
+    c.finish.ensures t.«rw» t.«data»
+    ∙ finished t.time t.rs t.«rw» t.«data» (panel_of a.self.now a.display.now a.pattern.now) _ (sym c.completed.ensures ∙ c.in-Some.is)
 
-pub returns-then-m : goal.returns-then-m
-returns-then-m c =
+pub returns-then-self : goal.returns-then-self
+returns-then-self c =
     let a = c.args in
-    let q = panel_of a.times a.self a.display.now a.pattern.now in
-    let k = a.self in
-    let b = joined_of k.modes.eight (half_of k) a.bus in
-    c.whole.ensures a.bus b ∙ rested a.time a.rs a.«rw» a.bus q (sym c.completes.ensures ∙ c.if-completes.false) c.if-m.true
+    let t = a.t in
+    c.whole.ensures t.«data» _
+    ∙ rested t.time t.rs t.«rw» t.«data» (panel_of a.self.now a.display.now a.pattern.now) (sym c.completed.ensures ∙ c.in_default.is) c.if-self.true
 
-pub returns-then-self-eq0 : goal.returns-then-self-eq0
-returns-then-self-eq0 c =
+pub returns-in-Empty : goal.returns-in-Empty
+returns-in-Empty c =
     let a = c.args in
-    let q = panel_of a.times a.self a.display.now a.pattern.now in
-    let k = a.self in
-    let b = joined_of k.modes.eight (half_of k) a.bus in
-    c.first.ensures a.times b ∙ begun a.time a.rs a.«rw» a.bus q c.if-m.false (ap (λ x. half_from x k.rs k.reads k.nibble) c.if-self-eq0.true)
+    let t = a.t in
+    c.first.ensures _ ∙ begun t.time t.rs t.«rw» t.«data» (panel_of a.self.now a.display.now a.pattern.now) c.if-self.false c.in-Empty.is
 
-pub returns : goal.returns
-returns c =
+pub returns-in-Ignored : goal.returns-in-Ignored
+returns-in-Ignored c =
     let a = c.args in
-    let q = panel_of a.times a.self a.display.now a.pattern.now in
-    let k = a.self in
-    let b = joined_of k.modes.eight (half_of k) a.bus in
-    c.second.ensures _ _ a.bus b
-    ∙ ended a.time a.rs a.«rw» a.bus q k.waits k.rs k.reads k.nibble (sym c.completes.ensures ∙ c.if-completes.false) c.if-m.false (ne_eqb _ _ c.if-self-eq0.false) refl
+    let t = a.t in
+    c.second.ensures c.in-Ignored.is _ _ t.«data» _
+    ∙ ended t.time t.rs t.«rw» t.«data» (panel_of a.self.now a.display.now a.pattern.now) c.in-Ignored.rs c.in-Ignored.«rw» None
+    (sym c.completed.ensures ∙ c.in_default.is) c.if-self.false c.in-Ignored.is
+
+pub returns-in-Waiting : goal.returns-in-Waiting
+returns-in-Waiting c =
+    let a = c.args in
+    let t = a.t in
+    c.second-in-Waiting.ensures c.in-Waiting.is _ _ t.«data» _
+    ∙ ended t.time t.rs t.«rw» t.«data» (panel_of a.self.now a.display.now a.pattern.now) c.in-Waiting.rs c.in-Waiting.«rw» (Some c.in-Waiting.nibble)
+    (sym c.completed.ensures ∙ c.in_default.is) c.if-self.false c.in-Waiting.is

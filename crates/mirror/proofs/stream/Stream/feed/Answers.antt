@@ -11,47 +11,35 @@ returns-then-self c = sym (feed_over _ _ c.if-self.true)
 pub returns-then-first-eq0 : goal.returns-then-first-eq0
 returns-then-first-eq0 c =
     let a = c.args in
-    let f = has_fed a.self a.part.now c.wanting.result c.fill-filled.result c.carried-held.result c.wanting.ensures c.fill-filled.ensures c.carried-held.ensures in
+    let f = has_fed a.self a.part.now _ _ c.gathered-filled.ensures c.bytes-held.ensures in
     c.rest.ensures ∙ feed_stops f c.if-self.false _ c.consume-first.ensures c.if-first-eq0.true
-
-pub slice_bounds-consume-count : goal.slice_bounds-consume-count
-slice_bounds-consume-count c =
-    let a = c.args in
-    let f = has_fed a.self a.part.now c.wanting.result c.fill-filled.result c.carried-held.result c.wanting.ensures c.fill-filled.ensures c.carried-held.ensures in
-    omega (arith, f.within)
-
-pub slice_bounds-consume-start : goal.slice_bounds-consume-start
-slice_bounds-consume-start c =
-    let a = c.args in
-    let f = has_fed a.self a.part.now c.wanting.result c.fill-filled.result c.carried-held.result c.wanting.ensures c.fill-filled.ensures c.carried-held.ensures in
-    omega (arith, f.within)
 
 pub slice_bounds-rest-count : goal.slice_bounds-rest-count
 slice_bounds-rest-count c =
     let a = c.args in
-    let f = has_fed a.self a.part.now c.wanting.result c.fill-filled.result c.carried-held.result c.wanting.ensures c.fill-filled.ensures c.carried-held.ensures in
+    let f = has_fed a.self a.part.now _ _ c.gathered-filled.ensures c.bytes-held.ensures in
     let k = c.consume-second in
     let o =
     feed_goes f c.if-self.false _ c.consume-first.ensures c.if-first-eq0.false _
-    (k.ensures ∙ ap (consumed_of c.consume-first.result.totals) (all_left a.part.now c.fill-filled.result.taken)) in
+    (k.ensures ∙ ap (consumed_of c.consume-first.result.totals) (all_left a.part.now c.gathered-filled.result.taken)) in
     omega (arith, o.within)
 
 pub slice_bounds-rest-start : goal.slice_bounds-rest-start
 slice_bounds-rest-start c =
     let a = c.args in
-    let f = has_fed a.self a.part.now c.wanting.result c.fill-filled.result c.carried-held.result c.wanting.ensures c.fill-filled.ensures c.carried-held.ensures in
+    let f = has_fed a.self a.part.now _ _ c.gathered-filled.ensures c.bytes-held.ensures in
     let k = c.consume-second in
     let o =
     feed_goes f c.if-self.false _ c.consume-first.ensures c.if-first-eq0.false _
-    (k.ensures ∙ ap (consumed_of c.consume-first.result.totals) (all_left a.part.now c.fill-filled.result.taken)) in
+    (k.ensures ∙ ap (consumed_of c.consume-first.result.totals) (all_left a.part.now c.gathered-filled.result.taken)) in
     omega (arith, o.within)
 
 pub returns : goal.returns
 returns c =
     let a = c.args in
-    let f = has_fed a.self a.part.now c.wanting.result c.fill-filled.result c.carried-held.result c.wanting.ensures c.fill-filled.ensures c.carried-held.ensures in
+    let f = has_fed a.self a.part.now _ _ c.gathered-filled.ensures c.bytes-held.ensures in
     let k = c.consume-second in
     let o =
     feed_goes f c.if-self.false _ c.consume-first.ensures c.if-first-eq0.false _
-    (k.ensures ∙ ap (consumed_of c.consume-first.result.totals) (all_left a.part.now c.fill-filled.result.taken)) in
-    c.rest-2.ensures ∙ ap (rested_of a.self k.result.totals) (all_left a.part.now (c.fill-filled.result.taken + k.result.at)) ∙ o.is
+    (k.ensures ∙ ap (consumed_of c.consume-first.result.totals) (all_left a.part.now c.gathered-filled.result.taken)) in
+    c.rest-2.ensures ∙ ap (rested_of a.self k.result.totals) (all_left a.part.now (c.gathered-filled.result.taken + k.result.at)) ∙ o.is

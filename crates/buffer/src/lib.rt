@@ -1,0 +1,4 @@
+// Bytes by value, in a room of a fixed size.
+#![tactic(auto)]
+
+pub mod buffer;

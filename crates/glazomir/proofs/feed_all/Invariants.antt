@@ -1,8 +1,0 @@
-use Rattle.std.proofs.Common.{◌≡◌, length}
-use Rattle.glazomir.proofs.feed_all.Given as goal
-
-abbrev pub invariant-loop-input : goal.invariant-loop-input
-invariant-loop-input l = length l.block ≡ length l.fn.block
-
-abbrev pub decreases-loop-input : goal.decreases-loop-input
-decreases-loop-input l = l.input.left

@@ -1,9 +1,0 @@
--- The memory is filled from the front.
-use Rattle.std.proofs.Common.{◌+◌}
-use Rattle.dots.specs.laws.TableLaws.{Filled}
-use Rattle.chip.specs.Sizes.{display_size}
-use Rattle.trace.specs.PanelFile.{byte_in}
-use Rattle.trace.proofs.panel_file.display_of.Given as goal
-
-abbrev pub invariant-loop-i : goal.invariant-loop-i
-invariant-loop-i l = Filled (λ i. byte_in l.bytes (1 + i)) display_size l.display l.i

@@ -1,9 +1,0 @@
--- The bytes are filled from the front.
-use Rattle.std.proofs.Common.{◌*◌}
-use Rattle.dots.specs.laws.TableLaws.{Filled}
-use Rattle.picture.specs.Frame.{bytes_across}
-use Rattle.wall.specs.Draw.{eight_of}
-use Rattle.wall.proofs.bitmap.row_bytes.Given as goal
-
-abbrev pub invariant-loop-i : goal.invariant-loop-i
-invariant-loop-i l = Filled (λ i. eight_of l.chip l.frame l.row (8 * i)) bytes_across l.bytes l.i
