@@ -6,6 +6,7 @@ ghost use Rattle.mirror.specs.Refusal.{refusal_number};
 
 use crate::count::COUNTS;
 
+// Nothing, Cut and Unsound are answers that the rules number, 7, 8 and 10, and not the lack of one.
 #[derive(Clone, Copy, PartialEq, Eq)]
 pub enum Answer {
     Taken,

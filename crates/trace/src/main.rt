@@ -77,10 +77,9 @@ fn loaded_panel(rt: &HostRuntime, place: usize) -> Result<Panel, Stopped> {
 
 fn first_panel(rt: &HostRuntime, places: [Option<usize>; GROUPS]) -> Result<Panel, Stopped> {
     let told = told_at(rt, b"trace", places[CHIP], places[TIMES])?;
-    let times = told.times;
     match places[PANEL] {
         Some(at) => loaded_panel(rt, at),
-        None => Ok(Panel::fresh(told.chip, times.reset, times.long, times.short)),
+        None => Ok(told.panel()),
     }
 }
 

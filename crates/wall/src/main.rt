@@ -23,7 +23,6 @@ use desk::print::{Stopped, complain};
 use desk::told::told_at;
 use glass::{Form, Wanted};
 use live::show_living;
-use mirror::panel::Panel;
 use mirror::stream::Stream;
 use picture::pattern::FONT_SIZE;
 use watch::watch_all;
@@ -163,8 +162,7 @@ fn run(rt: &HostRuntime) -> Result<(), Stopped> {
         dark: places[DARK].is_some(),
         upright: places[UPRIGHT].is_some(),
     };
-    let times = told.times;
-    let start = Stream::start(Panel::fresh(told.chip, times.reset, times.long, times.short));
+    let start = Stream::start(told.panel());
     if living {
         show_living(rt, start, wanted)
     } else {
