@@ -28,7 +28,7 @@ fn print_counts(run: &Run) {
     for (answer, n) in COUNTED.iter().zip(run.counts.iter()) {
         line(answer.name(), *n);
     }
-    line("cut", run.cut as u64);
+    line("cut", u64::from(run.cut));
 }
 
 fn print_address(registers: &Registers) {

@@ -57,7 +57,7 @@ pub struct Next<S, T> {
     pub reply: Reply<T>,
 }
 
-// A record, and what is wrong with it where it is bad.
+// A record, and what is wrong with it where it is bad: apart, since whoever acts on a frame asks for no flaw.
 #[derive(Clone, Copy)]
 pub struct Front {
     pub frame: Frame,

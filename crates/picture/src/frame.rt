@@ -10,7 +10,7 @@ use mirror::answer::Refusal;
 
 pub const COLUMNS: usize = POSITIONS * WIDE;
 
-const ROW_BYTES: usize = COLUMNS / 8;
+pub const ROW_BYTES: usize = COLUMNS / 8;
 
 // The bytes of the largest frame.
 pub const MOST_FRAME_SIZE: usize = MOST_LINES * TALL * ROW_BYTES;

@@ -11,7 +11,7 @@ use chip::registers::Registers;
 use chip::sizes::lines;
 use mirror::panel::Panel;
 
-// A chip's glass, turned in mode B.
+// A chip's glass, turned in mode B: a fact of it, beside no value.
 #[derive(Clone, Copy)]
 pub(crate) struct Wiring {
     pub(crate) chip: u8,
