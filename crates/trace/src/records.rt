@@ -48,6 +48,7 @@ fn end_at(run: &mut Run, tail: &[u8])
 
 // Every whole record at the front of the bytes, its line put on the page: what is left of them. No iterator: where a record
 // ends is what each turn answers. report and wall read so too, each with what it asks of a record between two turns.
+#[tactic(auto, using(crate::specs::laws::RecordsLaws::used_within))]
 fn read_records<'a>(run: &mut Run, bytes: &'a [u8], page: &mut Page) -> &'a [u8] {
     let mut rest = bytes;
     loop {
