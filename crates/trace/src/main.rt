@@ -49,7 +49,7 @@ struct Lent {
 const BLANK: usize = 16;
 
 // The trial font: byte i is (37 i + 11 (i div 8) + 5) mod 256, but the eight bytes of code 20h are E0h, blank in the low
-// five bits.
+// five bits. docs/TRACE.md has it; the benchmark's is another.
 fn trial_byte(i: usize) -> u8 {
     let shape = i / TALL;
     if shape == BLANK {

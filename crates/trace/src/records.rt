@@ -15,7 +15,7 @@ use mirror::panel::Panel;
 use mirror::record::Recorded;
 use mirror::stream::Run;
 
-// Before the first record.
+// Before the first record. Counted here and not by the mirror's own totals: this way of asking is held against the stream's.
 fn started(panel: Panel) -> Run
     ensures { result ≡ run_start panel }
 {
