@@ -55,6 +55,7 @@ fn trial_byte(i: usize) -> u8 {
     if shape == BLANK {
         return 0xE0;
     }
+    // The inner remainders change no byte: they keep the sum small whatever i is.
     ((37 * (i % 256) + 11 * (shape % 256) + 5) % 256) as u8
 }
 

@@ -21,6 +21,7 @@ use desk::bytes::{ROOM, load};
 use desk::number::number_at;
 use desk::print::{Stopped, complain};
 use desk::told::told_at;
+use framing::front::TIME_END;
 use glass::{Form, Wanted};
 use live::show_living;
 use mirror::stream::Stream;
@@ -51,7 +52,7 @@ const CHIP: usize = 9;
 const TIMES: usize = 10;
 
 // No record's time is later.
-const LATEST: u64 = 281474976710656;
+const LATEST: u64 = TIME_END;
 
 // Of the three ways to write a picture one is taken.
 fn one_form(ascii: bool, pbm: bool, svg: bool) -> Result<Form, Stopped> {
