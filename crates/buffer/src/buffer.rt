@@ -3,7 +3,7 @@ ghost use Rattle.std.specs.Prelude.{◌≡◌, [], ◌∷◌, ◌++◌, take};
 ghost use Rattle.buffer.specs.Buffer.{held_of, buffer_of, pushed, push_answer};
 
 // The first `len` of `bytes`, all of them where `len` says more. What lies past `len` is 0 in every buffer made here. Memory
-// is fixed here and no library has a heap, so this is no Vec.
+// is fixed, and nothing here is held on a heap, so this is no Vec.
 #[derive(Clone, Copy)]
 pub struct Buffer<const ROOM: usize> {
     pub bytes: [u8; ROOM],

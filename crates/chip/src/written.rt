@@ -24,5 +24,5 @@ pub(crate) fn with_bit(bits: u32, place: usize, set: bool) -> u32
     ensures { result ≡ with_bit display_size place set bits }
 {
     let bit: u32 = 1 << place;
-    ((bits | bit) ^ bit) | ((set as u32) << place)
+    ((bits | bit) ^ bit) | (u32::from(set) << place)
 }

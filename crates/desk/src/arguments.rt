@@ -13,7 +13,8 @@ pub const GROUPS: usize = 11;
 // The most bytes of an argument.
 pub(crate) const WORD: usize = 4096;
 
-// Of each group that a program takes, in their order, the place after its name, where it was given.
+// Of each group that a program takes, in their order, the place after its name, where it was given. A program numbers its groups
+// and has no enum of them: the order is that of the words in the text that it prints.
 #[derive(Clone, Copy)]
 pub struct Given {
     pub places: [Option<usize>; GROUPS],

@@ -21,7 +21,7 @@ const WITHIN: usize = 13;
 
 const CLOCK: usize = DIGITS + WITHIN;
 
-// The last two digits of a number in decimal.
+// The last two digits of a number in decimal, the first a zero where a decimal has none (`two_of`).
 fn two(n: u64) -> [u8; 2]
     ensures { result ≡ two_of n }
 {
@@ -74,7 +74,8 @@ impl Page {
         self.put(&within_hour(time));
     }
 
-    // A number where the page has room for any number; else nothing.
+    // A number where the page has room for any number; else nothing. Here and below nothing is written out, as `put_number` does
+    // of a full page (docs/DECISIONS.md, "Where a line is put").
     pub fn put_number_here(&mut self, n: u64)
         ensures { PutsHere most_digits (Decimal n) self.old self.new }
     {

@@ -6,16 +6,9 @@ ghost use Rattle.desk.specs.Times.{longest, times_of};
 use crate::arguments::argument;
 use crate::number::number_of;
 use crate::print::{Stopped, complain};
+use mirror::panel::Times;
 
-// Three times.
-#[derive(Clone, Copy)]
-pub struct Timed {
-    pub reset: u16,
-    pub long: u16,
-    pub short: u16,
-}
-
-const USUAL: Timed = Timed {
+const USUAL: Times = Times {
     reset: 10000,
     long: 1640,
     short: 40,
@@ -33,10 +26,10 @@ fn time_of(word: &[u8]) -> Option<u16>
 }
 
 // The times that three words write.
-pub fn times_of(reset: &[u8], long: &[u8], short: &[u8]) -> Option<Timed>
+pub fn times_of(reset: &[u8], long: &[u8], short: &[u8]) -> Option<Times>
     ensures { result ≡ times_of reset.now long.now short.now }
 {
-    Some(Timed {
+    Some(Times {
         reset: time_of(reset)?,
         long: time_of(long)?,
         short: time_of(short)?,
@@ -49,7 +42,7 @@ pub(crate) fn times_at(
     rt: &HostRuntime,
     program: &[u8],
     place: Option<usize>,
-) -> Result<Timed, Stopped> {
+) -> Result<Times, Stopped> {
     let Some(place) = place else {
         return Ok(USUAL);
     };

@@ -1,5 +1,5 @@
 // The record at the front of a log: told by its length, kind, time and control.
-ghost use Rattle.std.specs.Prelude.{◌≡◌, ◌+◌, ◌≤◌, length, MatchBool};
+ghost use Rattle.std.specs.Prelude.{◌≡◌, ◌+◌, ◌≤◌, length};
 ghost use Rattle.framing.specs.Flaw.{flaw_of};
 ghost use Rattle.framing.specs.Frame.{num16, time_of, told_size, whole_size, wants_more, frame_of};
 ghost use Rattle.framing.specs.engine.Reading.{Whole};
@@ -8,7 +8,7 @@ use crate::flaw::Flaw;
 use crate::frame::Frame;
 
 // 2^48: times are below it.
-const TIME_END: u64 = 1 << 48;
+pub const TIME_END: u64 = 1 << 48;
 
 // Length 12 and kind 1, as the first four bytes of a transfer have them.
 const TRANSFER: u32 = 0x0001_000C;
@@ -21,7 +21,7 @@ fn num16(log: &[u8], at: usize) -> u16
     u16::from_le_bytes([log[at], log[at + 1]])
 }
 
-// The time of a record that has one.
+// The time of a record that has one. Byte by byte: a try_from would answer a Result where all are there.
 fn time(log: &[u8]) -> u64
     requires { 12 ≤ length log.now }
     ensures { result ≡ time_of log.now }
@@ -96,38 +96,34 @@ fn reset(log: &[u8]) -> Frame
     Frame::Reset { time }
 }
 
-// Whether a transfer of the right length stands at the front: one look at its first four bytes tells.
-fn is_transfer(log: &[u8]) -> bool
-    ensures { MatchBool result (Whole log.now 14 1) (Whole log.now 14 1 → ⊥) }
-{
-    14 <= log.len() && u32::from_le_bytes([log[0], log[1], log[2], log[3]]) == TRANSFER
-}
-
-// Any other record, by its size and kind.
+// Any record, by its size and kind. It has a way to a transfer too: asked whether one stands there in one place alone, the
+// mirror's loop over records takes a twelfth longer, and a fifth where all are writes.
 #[tactic(auto, using(crate::specs::laws::FrameLaws::any_laws))]
-fn other(log: &[u8]) -> Frame
-    requires { Whole log.now 14 1 → ⊥ }
+fn any(log: &[u8]) -> Frame
     ensures { result ≡ frame_of log.now }
 {
     let Some(size) = whole(log) else {
         return Frame::Cut;
     };
-    if size == 12 && num16(log, 2) == 2 {
-        reset(log)
-    } else {
-        Frame::Bad(size)
+    match (num16(log, 2), size) {
+        (1, 14) => transfer(log),
+        (2, 12) => reset(log),
+        _ => Frame::Bad(size),
     }
 }
 
-// The record at the front, whatever follows it. Nearly all are transfers of the right length.
+// The record at the front, whatever follows it. Nearly all are transfers of the right length, which one look at the
+// first four bytes tells.
 pub fn frame(log: &[u8]) -> Frame
     ensures { result ≡ frame_of log.now }
 {
-    if is_transfer(log) {
-        transfer(log)
-    } else {
-        other(log)
+    if 14 <= log.len() {
+        let head = u32::from_le_bytes([log[0], log[1], log[2], log[3]]);
+        if head == TRANSFER {
+            return transfer(log);
+        }
     }
+    any(log)
 }
 
 // What is wrong with the record at the front: the first of these, whatever follows it.

@@ -10,7 +10,6 @@ use desk::print::{Stopped, show, show_bytes, show_number};
 use desk::progress::Progress;
 use desk::told::told_at;
 use mirror::answer::COUNTED;
-use mirror::panel::Panel;
 use mirror::stream::{Run, Stream};
 
 // The groups of arguments.
@@ -29,7 +28,7 @@ fn print_counts(run: &Run) {
     for (answer, n) in COUNTED.iter().zip(run.counts.iter()) {
         line(answer.name(), *n);
     }
-    line("cut", run.cut as u64);
+    line("cut", u64::from(run.cut));
 }
 
 fn print_address(registers: &Registers) {
@@ -78,8 +77,7 @@ fn arguments(rt: &HostRuntime) -> Result<Given, Stopped> {
 fn run(rt: &HostRuntime) -> Result<(), Stopped> {
     let given = arguments(rt)?;
     let told = told_at(rt, b"glazomir", given.places[CHIP], given.places[TIMES])?;
-    let times = told.times;
-    let mut stream = Stream::start(Panel::fresh(told.chip, times.reset, times.long, times.short));
+    let mut stream = Stream::start(told.panel());
     let mut block = [0; BLOCK];
     each_block(
         rt,

@@ -9,7 +9,7 @@ refusal_number Cut = 8
 refusal_number Size = 9
 refusal_number Unsound = 10
 
--- as a program prints it: 0 where nothing was refused, which is no refusal's number
+-- 0 where nothing was refused, which is no refusal's number
 abbrev pub numbered : Option ℕ → ℕ
 numbered none = 0
 numbered (some n) = n

@@ -6,38 +6,27 @@ ghost use Rattle.mirror.specs.Refusal.{refusal_number};
 
 use crate::count::COUNTS;
 
+// Nothing, Cut and Unsound are answers that the rules number, 7, 8 and 10, and not the lack of one.
 #[derive(Clone, Copy, PartialEq, Eq)]
 pub enum Answer {
-    Taken,
-    Doubtful,
-    Held,
-    Status,
-    Ignored,
-    Torn,
-    Back,
-    Bad,
-    Nothing,
-    Cut,
-    Unsound,
+    Taken = 0,
+    Doubtful = 11,
+    Held = 1,
+    Status = 2,
+    Ignored = 3,
+    Torn = 4,
+    Back = 5,
+    Bad = 6,
+    Nothing = 7,
+    Cut = 8,
+    Unsound = 10,
 }
 
 impl Answer {
     pub fn number(self) -> u8
         ensures { result ≡ number_of self }
     {
-        match self {
-            Answer::Taken => 0,
-            Answer::Doubtful => 11,
-            Answer::Held => 1,
-            Answer::Status => 2,
-            Answer::Ignored => 3,
-            Answer::Torn => 4,
-            Answer::Back => 5,
-            Answer::Bad => 6,
-            Answer::Nothing => 7,
-            Answer::Cut => 8,
-            Answer::Unsound => 10,
-        }
+        self as u8
     }
 
     // Whether it sets the last time to the record's: carried out, which is 0 or 11, or another of 1 to 4, or 7.
@@ -50,8 +39,8 @@ impl Answer {
         )
     }
 
-    // The place of its count; past the last where it has none. The cases stand in that order, and the numbers above are told by a
-    // function, so that the place costs nothing in the loop over records; as an Option of a place it costs a fifth at width 4.
+    // The place of its count; past the last where it has none. The cases stand in that order, so that it costs nothing; as an
+    // Option of a place it costs the loop over records a seventh at width 4.
     pub fn place(self) -> u8
         ensures { result ≡ place_of (number_of self) }
     {
@@ -70,6 +59,7 @@ impl Answer {
         }
     }
 
+    // Bytes for a page or for standard output, which no formatter writes to: so no Display.
     pub fn name(self) -> &'static str
         ensures { result.now ≡ name_of self }
     {

@@ -1,4 +1,5 @@
-// The waiting half: one state has one writing.
+// The waiting half: one state has one writing. Empty stands beside the other two and is no None around them: the rules ask of all
+// three at one place (`half_fits`), and a match would have to say Some of each.
 #[derive(Clone, Copy)]
 pub enum Half {
     Empty,

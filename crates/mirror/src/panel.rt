@@ -4,9 +4,7 @@ ghost use Rattle.mirror.specs.Panel.{fresh_panel, half_fits, sound_panel};
 
 use crate::half::Half;
 use chip::sheet::Sheet;
-
-// Times are below it.
-const TIME_END: u64 = 1 << 48;
+use framing::front::TIME_END;
 
 // A busy end is at most the longest span after such a time.
 const BUSY_END: u64 = TIME_END + 65536;

@@ -51,7 +51,7 @@ impl Reading {
         }
     }
 
-    // How many bytes the last record had, 0 where it was cut.
+    // How many bytes the last record had, 0 where it was cut, as a frame's size has it.
     pub fn used(self) -> usize
         ensures { result ≡ used_read self }
     {

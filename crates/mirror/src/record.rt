@@ -4,7 +4,8 @@ ghost use Rattle.mirror.specs.Promise.{Records};
 use crate::answer::Answer;
 use crate::panel::Panel;
 
-// The next panel, with the answer, the bus byte and the bytes used beside it.
+// The next panel, with the answer, the bus byte and the bytes used beside it: 0 where the record is cut or the panel refused, as
+// the rules have it (docs/DECISIONS.md, "Readings of the rules"). Answer and byte stand apart, as the definitions of a row have them.
 #[derive(Clone, Copy)]
 pub struct Recorded {
     pub panel: Panel,

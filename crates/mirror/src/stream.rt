@@ -23,12 +23,13 @@ use framing::front::wants_more;
 pub struct Stream {
     totals: Totals,
     carry: Carry,
-    // A cut was met: nothing more is read.
+    // A cut was met: nothing more is read. No value hangs on it.
     over: bool,
     // The panel handed in, where it was refused.
     refused: Option<Panel>,
 }
 
+// A run that is refused is not cut (must-fail refused_is_cut), and the rules ask for both.
 #[derive(Clone, Copy)]
 pub struct Run {
     pub panel: Panel,
@@ -39,6 +40,7 @@ pub struct Run {
 }
 
 // What a call for one answer comes to: the answer; more bytes wanted; a cut, or a panel that was refused: these two are final.
+// A Result around an Option would nest what the rules list as four.
 #[derive(Clone, Copy)]
 pub enum Reply<T> {
     Answered(T),
@@ -55,7 +57,7 @@ pub struct Next<S, T> {
     pub reply: Reply<T>,
 }
 
-// A record, and what is wrong with it where it is bad.
+// A record, and what is wrong with it where it is bad: apart, since whoever acts on a frame asks for no flaw.
 #[derive(Clone, Copy)]
 pub struct Front {
     pub frame: Frame,

@@ -45,7 +45,7 @@ impl Totals {
         self
     }
 
-    // Every whole record at the front of the log, one after the other.
+    // Every whole record at the front of the log, one after the other. No iterator: where a record ends is what each turn answers.
     pub(crate) fn consume(self, log: &[u8]) -> Consumed
         ensures { result ≡ consumed_of self log.now }
     {

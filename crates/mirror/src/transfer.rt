@@ -1,5 +1,6 @@
 // A record's turn, and what a transfer comes to. A byte that completes is told first, so that what acts on it stands in one
-// place: the compiler sets that into the loop over records, and keeps what it would need twice out of it.
+// place: the compiler sets that into the loop over records, and keeps what it would need twice out of it. The memories are lent
+// side by side, as the chip's steps take them: each is lent the one that it touches.
 ghost use Rattle.std.specs.Prelude.{◌≡◌, leb};
 ghost use Rattle.framing.specs.Frame.{frame_of, size_of};
 ghost use Rattle.mirror.specs.engine.Record.{transferred, answered};

@@ -82,12 +82,10 @@ fn arguments(rt: &HostRuntime) -> Result<Given, Stopped> {
 fn run(rt: &HostRuntime) -> Result<(), Stopped> {
     let given = arguments(rt)?;
     let told = told_at(rt, b"paintings", given.places[CHIP], None)?;
-    let times = told.times;
     let mut block = io::large_buffer();
     // A log that can't be read is painted as an empty one, once a line has said so.
     let n = read_block(rt, &mut block).unwrap_or(0);
-    let fresh = Panel::fresh(told.chip, times.reset, times.long, times.short);
-    show_paintings(told.chip, fresh.run(&block[..n]).panel);
+    show_paintings(told.chip, told.panel().run(&block[..n]).panel);
     Ok(())
 }
 

@@ -44,7 +44,8 @@ impl Canvas<'_> {
         self.frame[p.byte] |= u8::from(lit) << p.bit;
     }
 
-    // Paints column c of the cell at a spot.
+    // Paints column c of the cell at a spot. That its line is one of the chip's is asked here, of put_cell and of put_line: how many
+    // there are hangs on the chip, which a spot that knew it would carry too.
     fn put_column(&mut self, at: Spot, c: usize, rows: [u8; TALL])
         requires { (at.line < lines_of self.old.wiring.chip) × (at.position < positions) × (c < wide) }
         ensures { Drawn self.old self.new (column_put (wired self.old.wiring) rows (at.line * tall) (at.position * wide) c self.old.frame.now) }

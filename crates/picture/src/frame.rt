@@ -10,7 +10,7 @@ use mirror::answer::Refusal;
 
 pub const COLUMNS: usize = POSITIONS * WIDE;
 
-const ROW_BYTES: usize = COLUMNS / 8;
+pub const ROW_BYTES: usize = COLUMNS / 8;
 
 // The bytes of the largest frame.
 pub const MOST_FRAME_SIZE: usize = MOST_LINES * TALL * ROW_BYTES;
@@ -43,7 +43,8 @@ pub fn frame_size(chip: u8) -> usize
     rows(chip) * ROW_BYTES
 }
 
-// Where a dot of the frame lands; of the picture too, in mode A.
+// Where a dot of the frame lands; of the picture too, in mode A. That the dot is within the glass is asked here, of Glass and of
+// Canvas: how far the glass reaches hangs on the chip, which a dot that knew it would carry too.
 pub(crate) fn landing(chip: u8, at: Dot) -> Place
     requires { Inside (glass chip) at }
     ensures { Lands chip at.row at.column result }

@@ -11,7 +11,8 @@ use chip::registers::Registers;
 use chip::sizes::lines;
 use mirror::panel::Panel;
 
-// A chip's glass, turned in mode B.
+// A chip's glass, turned in mode B: a fact of it, beside no value. The mode's bit (`mode_b`) is read in one word here, and in one
+// where wall asks what a picture is made of: shared, that word would be a public function.
 #[derive(Clone, Copy)]
 pub(crate) struct Wiring {
     pub(crate) chip: u8,

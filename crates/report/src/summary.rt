@@ -23,7 +23,7 @@ pub(crate) fn put_counts(page: &mut Page, run: &Run) {
     for (answer, n) in COUNTED.iter().zip(run.counts.iter()) {
         put_count(page, answer.name(), *n);
     }
-    put_count(page, "cut", run.cut as u64);
+    put_count(page, "cut", u64::from(run.cut));
 }
 
 // The place of a run that was written again, where there is one.

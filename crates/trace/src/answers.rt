@@ -9,7 +9,7 @@ use desk::progress::Progress;
 use mirror::panel::Panel;
 use mirror::stream::{Reply, Run, Stream};
 
-// The tens of a number below 100, where it has any.
+// The tens of a number below 100, where it has any: `answer_line` says the digits one by one.
 fn put_tens(page: &mut Page, number: u8)
     ensures { Puts (tens_of number) page.old page.new }
 {
@@ -27,7 +27,7 @@ pub(crate) fn put_line(page: &mut Page, number: u8, byte: u8)
     page.put(&[text::digit(number % 10), b' ', digits[0], digits[1], b'\n']);
 }
 
-// Every record that a part makes whole.
+// Every record that a part makes whole. No iterator: how much of the part was taken is what each turn answers.
 fn answer_part(stream: &mut Stream, part: &[u8]) {
     let mut page = Page::blank();
     let mut rest = part;

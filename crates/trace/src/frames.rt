@@ -4,7 +4,6 @@ use desk::bytes::{ROOM, load};
 use desk::number::number_at;
 use desk::print::{Stopped, complain};
 use picture::frame::frame_size;
-use std::num::wrapping_add_usize;
 
 // The largest frame, to paint or to compare.
 const MOST: u64 = 200;
@@ -38,6 +37,6 @@ pub(crate) fn frames_at(
         return Ok(None);
     };
     let first = frame_at(rt, at)?;
-    let second = frame_at(rt, wrapping_add_usize(at, 1))?;
+    let second = frame_at(rt, at.wrapping_add(1))?;
     Ok(Some([first, second]))
 }

@@ -49,12 +49,13 @@ struct Lent {
 const BLANK: usize = 16;
 
 // The trial font: byte i is (37 i + 11 (i div 8) + 5) mod 256, but the eight bytes of code 20h are E0h, blank in the low
-// five bits.
+// five bits. docs/TRACE.md has it; the benchmark's is another.
 fn trial_byte(i: usize) -> u8 {
     let shape = i / TALL;
     if shape == BLANK {
         return 0xE0;
     }
+    // The inner remainders change no byte: they keep the sum small whatever i is.
     ((37 * (i % 256) + 11 * (shape % 256) + 5) % 256) as u8
 }
 
@@ -77,10 +78,9 @@ fn loaded_panel(rt: &HostRuntime, place: usize) -> Result<Panel, Stopped> {
 
 fn first_panel(rt: &HostRuntime, places: [Option<usize>; GROUPS]) -> Result<Panel, Stopped> {
     let told = told_at(rt, b"trace", places[CHIP], places[TIMES])?;
-    let times = told.times;
     match places[PANEL] {
         Some(at) => loaded_panel(rt, at),
-        None => Ok(Panel::fresh(told.chip, times.reset, times.long, times.short)),
+        None => Ok(told.panel()),
     }
 }
 

@@ -15,7 +15,7 @@ use mirror::panel::Panel;
 use mirror::record::Recorded;
 use mirror::stream::Run;
 
-// Before the first record.
+// Before the first record. Counted here and not by the mirror's own totals: this way of asking is held against the stream's.
 fn started(panel: Panel) -> Run
     ensures { result ≡ run_start panel }
 {
@@ -46,7 +46,9 @@ fn end_at(run: &mut Run, tail: &[u8])
     run.cut = !run.refused;
 }
 
-// Every whole record at the front of the bytes, its line put on the page: what is left of them.
+// Every whole record at the front of the bytes, its line put on the page: what is left of them. No iterator: where a record
+// ends is what each turn answers. report and wall read so too, each with what it asks of a record between two turns.
+#[tactic(auto, using(crate::specs::laws::RecordsLaws::used_within))]
 fn read_records<'a>(run: &mut Run, bytes: &'a [u8], page: &mut Page) -> &'a [u8] {
     let mut rest = bytes;
     loop {

@@ -43,7 +43,7 @@ impl Drawing<'_> {
     fn gap(&self) -> usize
         ensures { Gap self.now.apart result }
     {
-        if self.apart { 1 } else { 0 }
+        usize::from(self.apart)
     }
 
     fn is_gap(&self, size: usize, at: usize) -> bool

@@ -7,11 +7,8 @@ ghost use Rattle.wall.specs.engine.Bitmap.{DotBit};
 
 use crate::apart::Dots;
 use desk::print::{show, show_number};
-use picture::frame::COLUMNS;
+use picture::frame::{COLUMNS, ROW_BYTES};
 use std::array;
-
-// Eight dots to a byte.
-const ROW_BYTES: usize = COLUMNS / 8;
 
 impl Dots<'_> {
     // A dot as a bit.
@@ -21,7 +18,7 @@ impl Dots<'_> {
         u8::from(self.lit_at(row, column))
     }
 
-    // Eight dots from a column on.
+    // Eight dots from a column on, each by its weight, as `eight_of` adds them.
     fn eight(&self, row: usize, left: usize) -> u8
         requires { left < (glass self.now.chip).cols }
         ensures { result ≡ eight_of self.now.chip self.now.frame.now row left }

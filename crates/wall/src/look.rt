@@ -10,7 +10,7 @@ use picture::cursor::{Spot, shown};
 pub struct Look {
     pub chip: u8,
     pub shift: u8,
-    // D, C and B, and whether the glass is in mode B.
+    // D, C and B, and whether the glass is in mode B: facts of the picture, beside no value.
     pub on: bool,
     pub cursor: bool,
     pub blink: bool,

@@ -21,9 +21,9 @@ use desk::bytes::{ROOM, load};
 use desk::number::number_at;
 use desk::print::{Stopped, complain};
 use desk::told::told_at;
+use framing::front::TIME_END;
 use glass::{Form, Wanted};
 use live::show_living;
-use mirror::panel::Panel;
 use mirror::stream::Stream;
 use picture::pattern::FONT_SIZE;
 use watch::watch_all;
@@ -52,7 +52,7 @@ const CHIP: usize = 9;
 const TIMES: usize = 10;
 
 // No record's time is later.
-const LATEST: u64 = 281474976710656;
+const LATEST: u64 = TIME_END;
 
 // Of the three ways to write a picture one is taken.
 fn one_form(ascii: bool, pbm: bool, svg: bool) -> Result<Form, Stopped> {
@@ -163,8 +163,7 @@ fn run(rt: &HostRuntime) -> Result<(), Stopped> {
         dark: places[DARK].is_some(),
         upright: places[UPRIGHT].is_some(),
     };
-    let times = told.times;
-    let start = Stream::start(Panel::fresh(told.chip, times.reset, times.long, times.short));
+    let start = Stream::start(told.panel());
     if living {
         show_living(rt, start, wanted)
     } else {

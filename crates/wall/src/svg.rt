@@ -15,7 +15,8 @@ use chip::sizes::{POSITIONS, lines};
 use desk::page::Page;
 use picture::screen::codes;
 
-// A number of at most three digits.
+// A number of at most three digits. Its digits are said one by one (`decimal_bytes`), where `put_number` says that they are some
+// decimal's.
 pub(crate) fn put_decimal(page: &mut Page, n: usize)
     ensures { Puts (decimal_bytes n) page.old page.new }
 {

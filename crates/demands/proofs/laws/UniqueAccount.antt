@@ -7,6 +7,7 @@ use prog.Memory.{Memory}
 use prog.Routine.{Routine}
 use types.Logic.{Logic}
 use contract.Monad.{Fun}
+use Rattle.account.specs.contracts.account.Account.keep as account·keep
 use Rattle.account.specs.contracts.account.Account.start as account·start
 use Rattle.account.specs.contracts.account.Account.next as account·next
 use Rattle.account.specs.contracts.account.Account.unfinished as account·unfinished
@@ -29,6 +30,10 @@ module _ {M : Type 1} {𝓤 : Ura M} (𝓛 : Logic 𝓤) (mem : Memory → SProp
   -- account::account::Account::unfinished: result ≡ unfinished_of self
   pub account_unfinished : DeterminesAnswer 𝓤 account·unfinished.ended (account·unfinished.clauses 𝓛 mem run)
   account_unfinished = equation 𝓤 _ _ _ (λ κs a g r e. refl)
+
+  -- account::account::Account::keep: self.new ≡ after_placed self.old self.old.stream placed
+  pub account_keep : Determines 𝓤 account·keep.ended (account·keep.clauses 𝓛 mem run) (λ κs e. e.0.now)
+  account_keep = record { Says = _; stated = λ κs a g r e. refl; one = λ κs a r s e f p q. (refl, p ∙ sym q) }
 
   -- account::again::Again::after: self.new ≡ after_data self.old write
   pub again_after : Determines 𝓤 again·after.ended (again·after.clauses 𝓛 mem run) (λ κs e. e.0.now)

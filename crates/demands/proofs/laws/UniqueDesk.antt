@@ -22,6 +22,7 @@ use Rattle.desk.specs.contracts.page.Page.put_number as page·put-number
 use Rattle.desk.specs.contracts.page.Page.put_number_here as page·put-number-here
 use Rattle.desk.specs.contracts.progress.Progress.hidden as progress·hidden
 use Rattle.desk.specs.contracts.times.times_of as times·times
+use Rattle.desk.specs.contracts.told.Told.panel as told·panel
 use Rattle.desk.specs.declared.page.Page.{Page}
 use Rattle.demands.specs.Unique.{Determines, DeterminesAnswer, DeterminesShown, equation, shown_equation}
 
@@ -77,3 +78,7 @@ module _ {M : Type 1} {𝓤 : Ura M} (𝓛 : Logic 𝓤) (mem : Memory → SProp
   -- desk::times::times_of: result ≡ times_of reset.now long.now short.now
   pub times_of_lem : DeterminesAnswer 𝓤 times·times.ended (times·times.clauses 𝓛 mem run)
   times_of_lem = equation 𝓤 _ _ _ (λ κs a g r e. refl)
+
+  -- desk::told::Told::panel: result ≡ fresh_panel self.chip self.times.reset self.times.long self.times.short
+  pub told_panel : DeterminesAnswer 𝓤 told·panel.ended (told·panel.clauses 𝓛 mem run)
+  told_panel = equation 𝓤 _ _ _ (λ κs a g r e. refl)

@@ -8,13 +8,6 @@ use Rattle.framing.proofs.records.records.Goals as goal
 left : (s : List ℕ) (n : ℕ) → take (length s - n) (drop n s) ≡ drop n s
 left s n = take_all (length s - n) (drop n s) (omega (arith, length-drop n s))
 
-pub loop-size-smaller : goal.loop-size-smaller
-loop-size-smaller c =
-    let s = c.loop-size.rest.now in
-    let n = c.in-Some.size in
-    let f = some_front s n (sym c.whole.ensures ∙ c.in-Some.is) in
-    omega (arith, ap length (left s n), length-drop n s, f.size, f.fits)
-
 pub loop-size-preserved : goal.loop-size-preserved
 loop-size-preserved c =
     let s = c.loop-size.rest.now in

@@ -1,13 +1,9 @@
 use Rattle.std.proofs.Common.{rules, length, ◌≡◌, length-append, arith}
 use Rattle.std.proofs.lemmas.Slice.Zip.{zip_turn, zip_end}
-use Rattle.desk.specs.laws.PageLaws.{puts_none}
 use Rattle.mirror.specs.declared.answer.Answer.TheVariants.{Taken}
 use Rattle.mirror.specs.declared.answer.TheConstants.{COUNTED}
 use Rattle.wall.specs.laws.StatusLaws.{counts_more, just, nine_counts, some_then}
 use Rattle.wall.proofs.status.put_answers.Goals as goal
-
-pub loop-answer-init : goal.loop-answer-init
-loop-answer-init c = just (puts_none _)
 
 pub loop-answer-preserved : goal.loop-answer-preserved
 loop-answer-preserved c =
