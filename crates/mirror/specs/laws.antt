@@ -5,6 +5,7 @@ pub mod TableLaws
 pub mod RunLaws
 pub mod StreamLaws
 pub mod NextLaws
+pub mod RefusalLaws
 pub mod ReadLaws
 pub mod TableCase
 pub mod RecordKeeps

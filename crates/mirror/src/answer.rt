@@ -9,24 +9,37 @@ use crate::count::COUNTS;
 // Nothing, Cut and Unsound are answers that the rules number, 7, 8 and 10, and not the lack of one.
 #[derive(Clone, Copy, PartialEq, Eq)]
 pub enum Answer {
-    Taken = 0,
-    Doubtful = 11,
-    Held = 1,
-    Status = 2,
-    Ignored = 3,
-    Torn = 4,
-    Back = 5,
-    Bad = 6,
-    Nothing = 7,
-    Cut = 8,
-    Unsound = 10,
+    Taken,
+    Doubtful,
+    Held,
+    Status,
+    Ignored,
+    Torn,
+    Back,
+    Bad,
+    Nothing,
+    Cut,
+    Unsound,
 }
 
 impl Answer {
+    // The case's own number is the place of its count, so the numbers of the rules are told here (docs/DECISIONS.md).
     pub fn number(self) -> u8
         ensures { result ≡ number_of self }
     {
-        self as u8
+        match self {
+            Answer::Taken => 0,
+            Answer::Doubtful => 11,
+            Answer::Held => 1,
+            Answer::Status => 2,
+            Answer::Ignored => 3,
+            Answer::Torn => 4,
+            Answer::Back => 5,
+            Answer::Bad => 6,
+            Answer::Nothing => 7,
+            Answer::Cut => 8,
+            Answer::Unsound => 10,
+        }
     }
 
     // Whether it sets the last time to the record's: carried out, which is 0 or 11, or another of 1 to 4, or 7.

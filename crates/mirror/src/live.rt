@@ -81,6 +81,13 @@ impl Live {
         Verdict { answer, byte }
     }
 
+    // Nothing is carried out, and no half waits afterwards.
+    pub(crate) fn pass(&mut self, time: u64, answer: Answer, byte: u8) -> Verdict
+        ensures { (self.new ≡ held time Half.Empty self.old) × (result ≡ verdict answer byte) }
+    {
+        self.hold(time, Half::Empty, answer, byte)
+    }
+
     // Carried out, with the registers as they then are.
     pub(crate) fn done(
         &mut self,
@@ -93,9 +100,10 @@ impl Live {
         requires { time < time_end }
         ensures { (self.new ≡ acted registers time span self.old) × (result ≡ verdict answer byte) }
     {
+        let verdict = self.pass(time, answer, byte);
         self.registers = registers;
         self.busy = time + span as u64;
-        self.hold(time, Half::Empty, answer, byte)
+        verdict
     }
 
     // The byte of a status read.

@@ -61,7 +61,7 @@ impl Live {
             return self.done(next, t.time, self.times.short, Answer::Taken, 0);
         }
         if byte == 0 {
-            return self.hold(t.time, Half::Empty, Answer::Nothing, 0);
+            return self.pass(t.time, Answer::Nothing, 0);
         }
         let next = was.obey(byte, display);
         self.done(next, t.time, span(self.times, byte), Answer::Taken, 0)
@@ -91,12 +91,12 @@ impl Live {
         let Transfer { time, rs, rw, .. } = t;
         if rw && !rs {
             let status = self.status(time);
-            return self.hold(time, Half::Empty, Answer::Status, status);
+            return self.pass(time, Answer::Status, status);
         }
         if rw && self.free(time) {
             return self.read(t, self.registers.here(display, pattern));
         }
-        self.hold(time, Half::Empty, Answer::Ignored, 0)
+        self.pass(time, Answer::Ignored, 0)
     }
 
     // The first half of a read that counts: the low half waits.
@@ -147,16 +147,16 @@ impl Live {
         ensures { Ends t.time t.rs t.rw rs rw nibble self.old self.new result }
     {
         if rs != t.rs || rw != t.rw {
-            return self.hold(t.time, Half::Empty, Answer::Torn, 0);
+            return self.pass(t.time, Answer::Torn, 0);
         }
         let Some(nibble) = nibble else {
-            return self.hold(t.time, Half::Empty, Answer::Ignored, 0);
+            return self.pass(t.time, Answer::Ignored, 0);
         };
         let low = nibble % 16 * 16;
         if t.rs {
             return self.read(t, low);
         }
-        self.hold(t.time, Half::Empty, Answer::Status, low)
+        self.pass(t.time, Answer::Status, low)
     }
 
     // A transfer that is neither bad nor back.

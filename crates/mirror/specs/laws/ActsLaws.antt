@@ -1,5 +1,5 @@
 -- The engine tells the ways apart as the meaning does: what each of its steps comes to is what the transfer comes to.
-use Rattle.std.specs.Prelude.{ℕ, ◌+◌, ◌*◌, ◌/◌, ◌%◌, ◌≡◌, refl, Bool, true, false, not, List, Option, Some, None}
+use Rattle.std.specs.Prelude.{ℕ, ◌+◌, ◌*◌, ◌/◌, ◌%◌, ◌≡◌, refl, Bool, true, false, not, List, leb, Option, Some, None}
 use Rattle.std.specs.Option.{unwrap_or}
 use Rattle.std.proofs.Common.{sym, ap, ◌∙◌}
 use Rattle.std.proofs.lemmas.Option.{none-some}
@@ -14,7 +14,10 @@ use Rattle.mirror.specs.Words.{free, joined_of}
 use Rattle.mirror.specs.laws.RecordLaws.{by_way}
 use Rattle.mirror.specs.declared.panel.Panel.{Panel}
 use Rattle.mirror.specs.engine.Way.{Way, finish_of, first_of, second_of, unless_torn, way_of}
-use Rattle.mirror.specs.engine.Acts.{IsInTime, completed_of, rest_of, end_of, half_as}
+use Rattle.mirror.specs.engine.Acts.{IsInTime, completed_of, rest_of, end_of, half_as, Ends}
+use Rattle.mirror.specs.engine.Live.{panel_of, settled_of}
+use Rattle.mirror.specs.declared.answer.Verdict.{Verdict}
+use Rattle.mirror.specs.declared.live.Live.{Live}
 use Rattle.mirror.specs.declared.half.Half.{Half}
 use Rattle.mirror.specs.declared.half.Half.TheVariants.{Empty, Ignored, Waiting}
 
@@ -91,6 +94,12 @@ module _ (time : ℕ) (rs reads : Bool) (bus : ℕ) (p : Panel) where
       by_way time rs reads bus p byte (unless_torn r w rs reads (end_of nibble rs)) refl
       (second_way (free time p) rs reads bus byte r w nibble (sym same ∙ e)
       ∙ sym (ap (λ x. way_of x p.half (free time p) rs reads byte) z ∙ ap (λ x. way_of false x (free time p) rs reads byte) h))
+
+-- the same of a second half, from what its step promises
+pub ended_pair : (time : ℕ) (rs reads : Bool) (bus : ℕ) (k k' : Live) (d p : List ℕ) (v : Verdict) (r w : Bool) (nibble : Option ℕ) →
+    Ends time rs reads r w nibble k k' v → completed_of k.registers.eight k.half (leb k.busy time) rs reads bus ≡ None →
+    k.registers.eight ≡ false → k.half ≡ half_as r w nibble → settled_of k' d p v ≡ transferred time rs reads bus (panel_of k d p)
+ended_pair time rs reads bus k k' d p v r w nibble f e z h = f h d p bus _ ∙ ended time rs reads bus (panel_of k d p) r w nibble e z h
 
 -- the record at the front of a log has a time that a panel can have
 pub in_time : (s : List ℕ) → IsInTime (frame_of s)

@@ -1,6 +1,6 @@
-use Rattle.std.proofs.Common.{sym, ◌∙◌, Some, None}
+use Rattle.std.proofs.Common.{rules, sym, ◌∙◌, Some, None}
 use Rattle.mirror.specs.engine.Live.{panel_of}
-use Rattle.mirror.specs.laws.ActsLaws.{finished, rested, begun, ended}
+use Rattle.mirror.specs.laws.ActsLaws.{finished, rested, begun, ended_pair}
 use Rattle.mirror.proofs.live.Live.transfer.Goals as goal
 
 pub returns-in-Some : goal.returns-in-Some
@@ -23,18 +23,15 @@ returns-in-Empty c =
     let t = a.t in
     c.first.ensures _ ∙ begun t.time t.rs t.«rw» t.«data» (panel_of a.self.now a.display.now a.pattern.now) c.if-self.false c.in-Empty.is
 
+-- what is promised of a second half is found and not named by its call: another call in its place fails for what it comes to
 pub returns-in-Ignored : goal.returns-in-Ignored
 returns-in-Ignored c =
-    let a = c.args in
-    let t = a.t in
-    c.second.ensures c.in-Ignored.is _ _ t.«data» _
-    ∙ ended t.time t.rs t.«rw» t.«data» (panel_of a.self.now a.display.now a.pattern.now) c.in-Ignored.rs c.in-Ignored.«rw» None
-    (sym c.completed.ensures ∙ c.in_default.is) c.if-self.false c.in-Ignored.is
+    let t = c.args.t in
+    let h = c.in-Ignored in
+    ended_pair t.time t.rs t.«rw» t.«data» _ _ _ _ _ h.rs h.«rw» None (search rules) (sym c.completed.ensures ∙ c.in_default.is) c.if-self.false h.is
 
 pub returns-in-Waiting : goal.returns-in-Waiting
 returns-in-Waiting c =
-    let a = c.args in
-    let t = a.t in
-    c.second-in-Waiting.ensures c.in-Waiting.is _ _ t.«data» _
-    ∙ ended t.time t.rs t.«rw» t.«data» (panel_of a.self.now a.display.now a.pattern.now) c.in-Waiting.rs c.in-Waiting.«rw» (Some c.in-Waiting.nibble)
-    (sym c.completed.ensures ∙ c.in_default.is) c.if-self.false c.in-Waiting.is
+    let t = c.args.t in
+    let h = c.in-Waiting in
+    ended_pair t.time t.rs t.«rw» t.«data» _ _ _ _ _ h.rs h.«rw» (Some h.nibble) (search rules) (sym c.completed.ensures ∙ c.in_default.is) c.if-self.false h.is

@@ -5,7 +5,7 @@ use Rattle.mirror.proofs.live.Live.whole.Goals.{else-rw-via-then-rw+else-not-rs,
 
 pub returns-then-not-rs : goal.returns-then-not-rs
 returns-then-not-rs c bus byte =
-    rw (c.hold.ensures.0, c.hold.ensures.1, c.if-rw.true, c.if-not-rs.true, c.status-status.ensures c.args.display.now c.args.pattern.now) refl
+    rw (c.pass.ensures.0, c.pass.ensures.1, c.if-rw.true, c.if-not-rs.true, c.status-status.ensures c.args.display.now c.args.pattern.now) refl
 
 pub returns-then-free : goal.returns-then-free
 returns-then-free c bus byte =
