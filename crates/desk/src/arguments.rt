@@ -29,7 +29,10 @@ struct Group {
 
 // The argument at a place; no bytes where there is none, or where it is longer than the room. Its bytes may be any. No Option:
 // an empty word is refused wherever a missing one is, in the same words.
-pub(crate) fn argument(rt: &HostRuntime, place: usize) -> Buffer<WORD> {
+#[tactic(auto, unfolding(buffer::specs::Buffer::buffer_of))]
+pub(crate) fn argument(rt: &HostRuntime, place: usize) -> Buffer<WORD>
+    ensures { result.len ≤ 4096 }
+{
     let mut word = Buffer::empty();
     word.len = rt.arg(place, &mut word.bytes).unwrap_or(0);
     word

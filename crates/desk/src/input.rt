@@ -18,41 +18,43 @@ pub fn read_block(rt: &HostRuntime, block: &mut [u8]) -> Result<usize, Stopped>
         .map_err(|error| fail(rt, b"standard input", error))
 }
 
+// What a program does with its input. A trait and no closure: a call of a method asks nothing of whoever hands one in.
+pub trait Listener {
+    // Takes what a read brought, nothing at the end: whether more is wanted.
+    fn hear(&mut self, progress: &mut Progress, part: &[u8]) -> bool;
+}
+
 // Hands over what each read brought, nothing at the end of the input, as long as more is wanted. A proved loop has to end, and
 // nothing says that an input does: there are more turns than a run uses up.
-fn hand_over<F: FnMut(&mut Progress, &[u8]) -> bool>(
+fn hand_over<L: Listener>(
     rt: &HostRuntime,
     name: &[u8],
     progress: &mut Progress,
     block: &mut [u8],
-    mut wants_more: F,
-) -> Result<(), Stopped>
-    requires { F.IsAlwaysCallable wants_more }
-{
+    listener: &mut L,
+) -> Result<(), Stopped> {
     for _ in 0..u64::MAX {
         let read = read_block(rt, block);
         progress.after(rt, name, read.unwrap_or(0));
         let n = read?;
-        if !wants_more(progress, &block[..n]) || n == 0 {
+        if !listener.hear(progress, &block[..n]) || n == 0 {
             break;
         }
     }
     Ok(())
 }
 
-// Reads standard input block by block, and hands over what each read brought, nothing at its end: `wants_more` says whether it
-// wants more. The progress is shown all the while under the program's name, and taken away once all is read.
-pub fn each_block<F: FnMut(&mut Progress, &[u8]) -> bool>(
+// Reads standard input block by block, and hands over what each read brought, nothing at its end, as long as the listener wants
+// more. The progress is shown all the while under the program's name, and taken away once all is read.
+pub fn each_block<L: Listener>(
     rt: &HostRuntime,
     name: &[u8],
     start: Progress,
     block: &mut [u8],
-    wants_more: F,
-) -> Result<(), Stopped>
-    requires { F.IsAlwaysCallable wants_more }
-{
+    listener: &mut L,
+) -> Result<(), Stopped> {
     let mut progress = start;
-    let read = hand_over(rt, name, &mut progress, block, wants_more);
+    let read = hand_over(rt, name, &mut progress, block, listener);
     progress.clear();
     read
 }

@@ -110,9 +110,8 @@ impl Line {
         tell(name);
         tell(b": ");
         io::print_decimal(BESIDE, self.read);
-        if let Some(size) = self.size
-            && self.read <= size
-        {
+        let size = self.size.unwrap_or(0);
+        if self.read <= size {
             tell(b" of ");
             io::print_decimal(BESIDE, size);
         }

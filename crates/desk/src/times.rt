@@ -8,10 +8,16 @@ use crate::number::number_of;
 use crate::print::{Stopped, complain};
 use mirror::panel::Times;
 
+pub const RESET: u16 = 10000;
+
+pub const LONG: u16 = 1640;
+
+pub const SHORT: u16 = 40;
+
 const USUAL: Times = Times {
-    reset: 10000,
-    long: 1640,
-    short: 40,
+    reset: RESET,
+    long: LONG,
+    short: SHORT,
 };
 
 // The longest of sixteen bits.

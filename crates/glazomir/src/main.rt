@@ -5,7 +5,7 @@ use chip::address::Address;
 use chip::registers::Registers;
 use chip::sizes::{DISPLAY_SIZE, places};
 use desk::arguments::{Given, asked};
-use desk::input::{BLOCK, each_block};
+use desk::input::{BLOCK, Listener, each_block};
 use desk::print::{Stopped, show, show_bytes, show_number};
 use desk::progress::Progress;
 use desk::told::told_at;
@@ -16,6 +16,19 @@ use mirror::stream::{Run, Stream};
 const CHIP: usize = 0;
 
 const TIMES: usize = 1;
+
+// The mirror, fed with the log.
+#[derive(Clone, Copy)]
+struct Fed {
+    stream: Stream,
+}
+
+impl Listener for Fed {
+    fn hear(&mut self, _progress: &mut Progress, part: &[u8]) -> bool {
+        self.stream = self.stream.feed(part);
+        true
+    }
+}
 
 fn line(name: &str, n: u64) {
     show(name.as_bytes());
@@ -77,19 +90,12 @@ fn arguments(rt: &HostRuntime) -> Result<Given, Stopped> {
 fn run(rt: &HostRuntime) -> Result<(), Stopped> {
     let given = arguments(rt)?;
     let told = told_at(rt, b"glazomir", given.places[CHIP], given.places[TIMES])?;
-    let mut stream = Stream::start(told.panel());
+    let mut fed = Fed {
+        stream: Stream::start(told.panel()),
+    };
     let mut block = [0; BLOCK];
-    each_block(
-        rt,
-        b"glazomir",
-        Progress::start(rt),
-        &mut block,
-        |_, part| {
-            stream = stream.feed(part);
-            true
-        },
-    )?;
-    let run = stream.end();
+    each_block(rt, b"glazomir", Progress::start(rt), &mut block, &mut fed)?;
+    let run = fed.stream.end();
     print_counts(&run);
     print_address(&run.panel.sheet.registers);
     print_codes(told.chip, &run.panel.sheet.display);

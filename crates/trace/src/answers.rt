@@ -2,7 +2,7 @@
 ghost use Rattle.desk.specs.Page.{Puts};
 ghost use Rattle.trace.specs.Line.{answer_line, tens_of};
 
-use desk::input::{BLOCK, each_block};
+use desk::input::{BLOCK, Listener, each_block};
 use desk::page::Page;
 use desk::print::Stopped;
 use desk::progress::Progress;
@@ -43,19 +43,33 @@ fn answer_part(stream: &mut Stream, part: &[u8]) {
     page.write_out();
 }
 
-// The whole of standard input. A stream that refuses is only fed: its records are counted, and get no line.
-pub(crate) fn answer_all(rt: &HostRuntime, panel: Panel) -> Result<Run, Stopped> {
-    let mut stream = Stream::start(panel);
-    let refused = stream.ended();
-    let mut block = [0; BLOCK];
-    let progress = Progress::start_beside_print(rt);
-    each_block(rt, b"trace", progress, &mut block, |_, part| {
-        if refused {
-            stream = stream.feed(part);
+// The stream so far, and whether it refuses: then it is only fed, its records are counted, and get no line.
+#[derive(Clone, Copy)]
+struct Answering {
+    stream: Stream,
+    refused: bool,
+}
+
+impl Listener for Answering {
+    fn hear(&mut self, _progress: &mut Progress, part: &[u8]) -> bool {
+        if self.refused {
+            self.stream = self.stream.feed(part);
         } else {
-            answer_part(&mut stream, part);
+            answer_part(&mut self.stream, part);
         }
         true
-    })?;
-    Ok(stream.end())
+    }
+}
+
+// The whole of standard input.
+pub(crate) fn answer_all(rt: &HostRuntime, panel: Panel) -> Result<Run, Stopped> {
+    let stream = Stream::start(panel);
+    let mut answering = Answering {
+        stream,
+        refused: stream.ended(),
+    };
+    let mut block = [0; BLOCK];
+    let progress = Progress::start_beside_print(rt);
+    each_block(rt, b"trace", progress, &mut block, &mut answering)?;
+    Ok(answering.stream.end())
 }

@@ -1,9 +1,9 @@
 // A line for each record of standard input, every one by a call of its own on the panel that the one before it left.
-ghost use Rattle.std.specs.Prelude.{◌≡◌};
+ghost use Rattle.std.specs.Prelude.{◌≡◌, ◌≤◌, length};
 ghost use Rattle.trace.specs.engine.Records.{run_after, run_over, run_start};
 
 use crate::answers::{answer_all, put_line};
-use desk::input::{BLOCK, each_block};
+use desk::input::{BLOCK, Listener, each_block};
 use desk::page::Page;
 use desk::print::Stopped;
 use desk::progress::Progress;
@@ -49,7 +49,9 @@ fn end_at(run: &mut Run, tail: &[u8])
 // Every whole record at the front of the bytes, its line put on the page: what is left of them. No iterator: where a record
 // ends is what each turn answers. report and wall read so too, each with what it asks of a record between two turns.
 #[tactic(auto, using(crate::specs::laws::RecordsLaws::used_within))]
-fn read_records<'a>(run: &mut Run, bytes: &'a [u8], page: &mut Page) -> &'a [u8] {
+fn read_records<'a>(run: &mut Run, bytes: &'a [u8], page: &mut Page) -> &'a [u8]
+    ensures { length result.now ≤ length bytes.now }
+{
     let mut rest = bytes;
     loop {
         let r = run.panel.record(rest);
@@ -83,24 +85,53 @@ fn read_part(run: &mut Run, waiting: Carry, part: &[u8]) -> Carry {
     keep(run, tail)
 }
 
+// The run so far, the bytes that wait, and what is shown of how far the reading is: here once a part has its lines.
+#[derive(Clone, Copy)]
+struct Recording<'a> {
+    rt: &'a HostRuntime,
+    run: Run,
+    carry: Carry,
+    shown: Progress,
+}
+
+impl Recording<'_> {
+    fn show(&mut self, len: usize) {
+        self.shown.after(self.rt, b"trace", len);
+    }
+}
+
+impl Listener for Recording<'_> {
+    fn hear(&mut self, _progress: &mut Progress, part: &[u8]) -> bool {
+        if self.run.refusal().is_none() {
+            self.carry = read_part(&mut self.run, self.carry, part);
+        }
+        if !part.is_empty() {
+            self.show(part.len());
+        }
+        true
+    }
+}
+
 // The whole of standard input. A panel that is refused takes no record, and so none can move it on: how many there are
 // is then read off by the stream.
 pub(crate) fn record_all(rt: &HostRuntime, panel: Panel) -> Result<Run, Stopped> {
     if panel.record(b"").answer == Answer::Unsound {
         return answer_all(rt, panel);
     }
-    let mut run = started(panel);
-    let mut carry = Carry::empty();
+    let mut recording = Recording {
+        rt,
+        run: started(panel),
+        carry: Carry::empty(),
+        shown: Progress::start_beside_print(rt),
+    };
     let mut block = [0; BLOCK];
-    let progress = Progress::start_beside_print(rt);
-    each_block(rt, b"trace", progress, &mut block, |_, part| {
-        if run.refusal().is_none() {
-            carry = read_part(&mut run, carry, part);
-        }
-        true
-    })?;
-    if !carry.bytes().is_empty() {
-        end_at(&mut run, carry.bytes());
+    let read = each_block(rt, b"trace", Progress::hidden(), &mut block, &mut recording);
+    recording.show(0);
+    recording.shown.clear();
+    read?;
+    let mut run = recording.run;
+    if !recording.carry.bytes().is_empty() {
+        end_at(&mut run, recording.carry.bytes());
     }
     Ok(run)
 }

@@ -4,7 +4,7 @@ use crate::follow::Followed;
 use crate::glass::Wanted;
 use crate::look::{Look, alike, look_of};
 use crate::status::{put_answers, put_clock_line, put_last};
-use desk::input::{BLOCK, each_block};
+use desk::input::{BLOCK, Listener, each_block};
 use desk::page::Page;
 use desk::print::{Stopped, show};
 use desk::progress::Progress;
@@ -116,9 +116,10 @@ impl Living<'_> {
         self.write(&drawn, Change::First);
         drawn
     }
+}
 
-    // What a read brought, nothing at the end.
-    fn hear(&mut self, part: &[u8]) {
+impl Listener for Living<'_> {
+    fn hear(&mut self, _progress: &mut Progress, part: &[u8]) -> bool {
         // No time is asked for, so none is too late.
         let _ = self.heard.follow(None, part);
         self.drawn = match self.drawn {
@@ -126,6 +127,7 @@ impl Living<'_> {
             Some(before) => Some(self.after(before)),
             None => Some(self.first()),
         };
+        true
     }
 }
 
@@ -142,10 +144,7 @@ pub(crate) fn show_living(
         heard: Followed::start(start),
         drawn: None,
     };
-    let read = each_block(rt, b"wall", Progress::hidden(), &mut block, |_, part| {
-        living.hear(part);
-        true
-    });
+    let read = each_block(rt, b"wall", Progress::hidden(), &mut block, &mut living);
     if living.terminal && living.drawn.is_some() {
         show(b"\x1B[?7h\x1B[?25h");
     }
