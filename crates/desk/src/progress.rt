@@ -103,8 +103,8 @@ impl Line {
         line
     }
 
-    // Shows the line over the one that stands there. A file that has grown since is of no known size any more. The cursor goes
-    // back, so that what another program prints there begins where a line does.
+    // Shows the line over the one that stands there. A file that has grown since is of no known size any more, and of an input of
+    // none 0 bytes are all there are yet. The cursor goes back, so that what another program prints there begins where a line does.
     fn show(&mut self, name: &[u8]) {
         tell(b"\r");
         tell(name);
